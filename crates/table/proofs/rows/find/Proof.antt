@@ -1,0 +1,99 @@
+-- The place of a name: no row passed has it. The measure is the rows that are left. Assumes nothing.
+use Prim.Native.Nat.{ℕ, suc, _≤_, _<_, _-_}
+use mathlib.Core.Bool.{false}
+use mathlib.Core.Path.{_≡_, _∙_, ap, sym}
+use native.Mathlib.Omega.{arith}
+use borrow.Author.Count.{below-more}
+use borrow.Author.Needs.{needs}
+use lib.ListN.{length}
+use Rattle.table.specs.Bytes.{same}
+use Rattle.table.specs.Rows.{at, capacity, rows, size}
+use Rattle.table.specs.declared.Block.{Block}
+use Rattle.table.proofs.Laws.{at-rows, find-is, find-none, length-unmap, size-rows}
+use Rattle.table.proofs.rows.find.Statement.{statement}
+use Rattle.table.proofs.rows.find.Tie as tie
+
+abbrev Inv-loop : tie.InvT-loop
+Inv-loop name s end k₀ k = (k ≤ end) × ((i : ℕ) → i < k → same (at (rows s) i .name) name ≡ false)
+
+abbrev μ-loop : tie.MeasureT-loop
+μ-loop name s end k₀ k = end - k
+
+held : (c : tie.Start Inv-loop μ-loop) → length (c .args .t1 .blocks) ≡ suc capacity
+held c = search length-unmap
+
+-- the loop's end is the table's
+ends : (c : tie.After-size-of Inv-loop μ-loop) → c .size-of .result ≡ size (rows (c .before .args .t1))
+ends c =
+    let l = held (c .before) in
+    omega (arith, size-rows (c .before .args .t1))
+
+-- what a turn compares is the row's name
+compared : (c : tie.After-same-name Inv-loop μ-loop)
+    → let l = c .before .before .before .before in
+    let a = l .before .before .args in
+    c .same-name .result ≡ same (at (rows (a .t1)) (l .loop .k) .name) (a .name)
+compared c =
+    let l = c .before .before .before .before in
+    let a = l .before .before .args in
+    let h = held (l .before .before) in
+    c .same-name .ensures
+    ∙ ap (λ (b : Block). same (b .name) (a .name)) (sym (at-rows (a .t1) (l .loop .k) _ (omega arith) (omega arith)))
+
+size-of-requires : tie.Need-size-of-requires Inv-loop μ-loop
+size-of-requires c κs = search needs
+
+loop-holds : tie.Need-loop-holds Inv-loop μ-loop
+loop-holds c = (omega arith, λ i l. absurd (omega arith))
+
+cast-i : tie.Need-cast-i Inv-loop μ-loop
+cast-i c = omega arith
+
+mul-b : tie.Need-mul-b Inv-loop μ-loop
+mul-b c = omega arith
+
+element-copy-out-b : tie.Need-element-copy-out-b Inv-loop μ-loop
+element-copy-out-b c = omega arith
+
+same-name-requires : tie.Need-same-name-requires Inv-loop μ-loop
+same-name-requires c κs = search needs
+
+returns : tie.Need-returns Inv-loop μ-loop
+returns c =
+    let l = c .before .before .before .before .before in
+    let here = sym (compared (c .before)) ∙ c .if1 .taken in
+    ap (λ (w : ℕ). record { 0 = w }) (sym (find-is _ _ (l .loop .k) (omega (arith, ends (l .before))) here (l .loop .inv .1)))
+
+add-k : tie.Need-add-k Inv-loop μ-loop
+add-k c = omega arith
+
+loop-less : tie.Need-loop-less Inv-loop μ-loop
+loop-less c = omega arith
+
+loop-again : tie.Need-loop-again Inv-loop μ-loop
+loop-again c =
+    let l = c .before .before .before .before .before in
+    (omega arith, below-more _ _ (l .loop .inv .1) (sym (compared (c .before)) ∙ c .if1 .left))
+
+returns-2 : tie.Need-returns-2 Inv-loop μ-loop
+returns-2 c =
+    let e = ends (c .before .before) in
+    ap (λ (w : ℕ). record { 0 = w }) (e ∙ sym (find-none _ _ (λ i l. c .before .loop .inv .1 i (omega arith))))
+
+pub find-spec : {M : Type 1} → statement M
+find-spec =
+    tie.close
+    (tie.spec
+    Inv-loop
+    μ-loop
+    size-of-requires
+    loop-holds
+    cast-i
+    mul-b
+    element-copy-out-b
+    same-name-requires
+    returns
+    add-k
+    loop-less
+    loop-again
+    returns-2)

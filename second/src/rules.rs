@@ -1,0 +1,146 @@
+//! The rules that a state is read by. None of them changes it.
+
+use crate::state::{Epoch, NodeNo, Place, State, GENESIS, NO_EPOCH, ROWS};
+
+/// "The least q with 3q at least 2n", worked out where 2n can't wrap.
+pub fn quorum(n: u32) -> u32 {
+    (2 * u64::from(n)).div_ceil(3) as u32
+}
+
+/// "Proposer of epoch e is e mod n"; of no nodes, none is.
+pub fn proposer(n: u32, epoch: Epoch) -> Option<NodeNo> {
+    epoch.0.checked_rem(n).map(NodeNo)
+}
+
+/// "A block is notarized at q voters", the genesis by decree.
+pub fn notarized(state: &State, place: Place) -> bool {
+    place == GENESIS || state.row(place).voters.count() >= quorum(state.n)
+}
+
+/// Which places are firm, worked out once for the whole table.
+pub struct Firm([bool; ROWS]);
+
+impl Firm {
+    /// "Firm when it and every ancestor up to genesis is notarized": a parent
+    /// stands at a lower place, so its mark is settled before it is read.
+    pub fn of(state: &State) -> Firm {
+        let mut firm = Firm([false; ROWS]);
+        firm.0[GENESIS.0] = true;
+        for place in state.places() {
+            firm.0[place.0] = notarized(state, place) && firm.holds(state.row(place).parent);
+        }
+        firm
+    }
+
+    /// Is the block at this place firm?
+    pub fn holds(&self, place: Place) -> bool {
+        self.0.get(place.0).copied().unwrap_or(false)
+    }
+}
+
+/// "The firm block of highest epoch; of equals the lowest place."
+pub fn freshest(state: &State, firm: &Firm) -> Place {
+    let mut freshest = GENESIS;
+    for place in state.places() {
+        if firm.holds(place) && state.row(place).epoch > state.row(freshest).epoch {
+            freshest = place;
+        }
+    }
+    freshest
+}
+
+/// "A block may be voted for when ..." (002, section 1.2)
+pub fn may_be_voted_for(state: &State, firm: &Firm, place: Place) -> bool {
+    let block = state.row(place);
+    block.epoch == state.local
+        && firm.holds(block.parent)
+        && state.row(block.parent).epoch >= state.bar
+        && state.voted != state.local
+}
+
+/// "The lowest place that may be voted for."
+pub fn first_votable(state: &State) -> Option<Place> {
+    let firm = Firm::of(state);
+    let mut places = state.places();
+    places.find(|place| may_be_voted_for(state, &firm, *place))
+}
+
+/// The number, if any, that at least q nodes have as their kept clock. A quorum
+/// is more than half, so there is no second one. A kept clock of 0 is none.
+pub fn agreed_clock(state: &State) -> Option<Epoch> {
+    let clocks = || state.clocks.iter().take(state.n as usize);
+    let shared = |clock: &Epoch| clocks().filter(|other| *other == clock).count();
+    let mut kept = clocks().filter(|clock| **clock != NO_EPOCH);
+    kept.find(|clock| shared(clock) >= quorum(state.n) as usize)
+        .copied()
+}
+
+/// "The greatest of the old one, the freshest epoch + 1, and the number c".
+pub fn new_local(state: &State, freshest: Place) -> Epoch {
+    let after_freshest = state.row(freshest).epoch.next();
+    let agreed = agreed_clock(state).unwrap_or(NO_EPOCH);
+    state.local.max(after_freshest).max(agreed)
+}
+
+/// "A block is normal when its epoch is its parent's plus 1."
+pub fn normal(state: &State, place: Place) -> bool {
+    let block = state.row(place);
+    place != GENESIS && block.epoch == state.row(block.parent).epoch.next()
+}
+
+/// "The parent of the last normal block on the freshest chain; genesis if there
+/// is none": the one nearest to the freshest, which may be it.
+pub fn candidate(state: &State, freshest: Place) -> Place {
+    let last_normal = state.chain(freshest).find(|place| normal(state, *place));
+    last_normal.map_or(GENESIS, |place| state.row(place).parent)
+}
+
+/// Is the block at this place the other one, or does it descend from it?
+pub fn is_or_descends(state: &State, place: Place, other: Place) -> bool {
+    state.chain(place).any(|ancestor| ancestor == other)
+}
+
+#[cfg(test)]
+mod tests {
+    use super::*;
+
+    #[test]
+    fn quorums_of_the_scope() {
+        let quorums = [
+            (1, 1),
+            (2, 2),
+            (3, 2),
+            (4, 3),
+            (5, 4),
+            (6, 4),
+            (7, 5),
+            (31, 21),
+            (32, 22),
+        ];
+        for (n, q) in quorums {
+            assert_eq!(quorum(n), q, "n = {n}");
+        }
+    }
+
+    #[test]
+    fn a_quorum_is_the_least_of_two_thirds() {
+        for n in 1..=32 {
+            let q = quorum(n);
+            assert!(3 * q >= 2 * n && 3 * (q - 1) < 2 * n, "n = {n}");
+            assert!(2 * q > n, "n = {n}: two numbers can't both have a quorum");
+        }
+    }
+
+    #[test]
+    fn a_quorum_of_any_count_is_worked_out() {
+        assert_eq!(quorum(0), 0);
+        assert_eq!(quorum(u32::MAX), 2_863_311_530);
+    }
+
+    #[test]
+    fn the_proposer_is_the_epoch_mod_n() {
+        assert_eq!(proposer(4, Epoch(5)), Some(NodeNo(1)));
+        assert_eq!(proposer(1, Epoch(u32::MAX)), Some(NodeNo(0)));
+        assert_eq!(proposer(0, Epoch(5)), None);
+    }
+}
