@@ -41,6 +41,12 @@ fn the_session_to_the_letter() {
 }
 
 #[test]
+fn the_bundled_recording_is_the_session() {
+    let bundled = std::fs::read("../recordings/session.rec").unwrap();
+    assert_eq!(bundled, recording(4, 0, &session()));
+}
+
+#[test]
 fn p1_after_record_4_the_final_list_is_empty() {
     assert!(Node::in_session(4).final_names().is_empty());
 }
