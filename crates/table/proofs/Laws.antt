@@ -20,6 +20,12 @@ use Rattle.table.specs.Rows.{rows, at, size, blank, find, hasVoter, with
 use Rattle.table.specs.declared.Block.{Block}
 use Rattle.table.specs.declared.State.{State}
 
+-- ---- promises
+
+-- two outcomes that equal one and the same are equal: a promise that is an equation admits one
+pub one-outcome {ℓ} : {A : Type ℓ} {x r q : A} → r ≡ x → q ≡ x → r ≡ q
+one-outcome p h = p ∙ sym h
+
 -- ---- tests
 
 pub not-both : {b : Bool} → b ≡ true → b ≡ false → ⊥
