@@ -4,7 +4,7 @@
 //! The words and their order are those of the scope: counts and names in
 //! [`state`], the record in [`record`], the answer numbers in [`answer`], the
 //! rules in [`rules`], what a record does in [`node`], reading out in
-//! [`lists`], [`run`] and [`replay`].
+//! [`lists`], [`mod@run`] and [`mod@replay`]. The comparing itself is in [`trials`].
 
 #![forbid(unsafe_code)]
 #![deny(missing_docs)]
@@ -17,6 +17,7 @@ pub mod replay;
 pub mod rules;
 pub mod run;
 pub mod state;
+pub mod trials;
 
 pub use answer::{Refusal, TAKEN};
 pub use lists::{final_length, final_list, relation, relation_code, tail, Relation};

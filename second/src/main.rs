@@ -3,53 +3,109 @@
 use std::env;
 use std::ffi::{OsStr, OsString};
 use std::fs;
-use std::io::{self, BufWriter, ErrorKind, Write};
+use std::io::{self, BufWriter, ErrorKind, Read, Write};
 use std::process::ExitCode;
+use std::str::FromStr;
 
 use second::run::{LIST_LEN, REFUSAL_UNIT};
 use second::state::NAME_LEN;
+use second::trials::bench::bench;
+use second::trials::compare::compare_replay;
+use second::trials::load::{load, write_long, LOAD_NODES};
+use second::trials::script::{print_answers, write_script};
 use second::{relation, replay, run, tail};
 
 const USAGE: &str = "usage: second replay < RECORDING
        second run N OWN RECORDS_FILE
-       second relation FILE_A FILE_B";
+       second relation FILE_A FILE_B
+       second compare-replay PROGRAM COUNT SEED
+       second script COUNT SEED > SCRIPT
+       second answers < SCRIPT
+       second bench PROGRAM
+       second recording 4|7|32 > RECORDING
+       second long BYTES > RECORDING";
 /// The exit code of a command that isn't one of these.
 const USAGE_CODE: u8 = 2;
 /// Bytes gathered before the output is written to.
 const OUTPUT_PIECE: usize = 1 << 16;
 
+/// Why a command doesn't succeed.
+enum Failure {
+    /// It isn't one of those that the usage shows.
+    Usage,
+    /// What it compares differs; it printed how.
+    Different,
+    /// Reading, writing or running a program failed.
+    Io(io::Error),
+}
+
+impl From<io::Error> for Failure {
+    fn from(error: io::Error) -> Failure {
+        Failure::Io(error)
+    }
+}
+
 fn main() -> ExitCode {
     let words: Vec<OsString> = env::args_os().skip(1).collect();
     let mut output = BufWriter::with_capacity(OUTPUT_PIECE, io::stdout().lock());
-    let done = match words.as_slice() {
-        [command] if command == "replay" => replay(io::stdin().lock(), &mut output),
-        [command, n, own, records] if command == "run" => {
-            let (Some(n), Some(own)) = (number(n), number(own)) else {
-                return usage();
-            };
-            print_run(n, own, records, &mut output)
-        }
-        [command, a, b] if command == "relation" => print_relation(a, b, &mut output),
-        _ => return usage(),
-    };
-    match done.and_then(|()| output.flush()) {
+    let done = command(&words, &mut output);
+    let flushed = output.flush().map_err(Failure::Io);
+    match done.and(flushed) {
         Ok(()) => ExitCode::SUCCESS,
+        Err(Failure::Usage) => {
+            eprintln!("{USAGE}");
+            ExitCode::from(USAGE_CODE)
+        }
+        Err(Failure::Different) => ExitCode::FAILURE,
         // Whoever read the output has enough: a clean end.
-        Err(error) if error.kind() == ErrorKind::BrokenPipe => ExitCode::SUCCESS,
-        Err(error) => {
+        Err(Failure::Io(error)) if error.kind() == ErrorKind::BrokenPipe => ExitCode::SUCCESS,
+        Err(Failure::Io(error)) => {
             eprintln!("second: {error}");
             ExitCode::FAILURE
         }
     }
 }
 
-fn usage() -> ExitCode {
-    eprintln!("{USAGE}");
-    ExitCode::from(USAGE_CODE)
+fn command(words: &[OsString], output: &mut impl Write) -> Result<(), Failure> {
+    let (command, words) = words.split_first().ok_or(Failure::Usage)?;
+    match (command.to_str().unwrap_or_default(), words) {
+        ("replay", []) => replay(io::stdin().lock(), output)?,
+        ("run", [n, own, records]) => print_run(number(n)?, number(own)?, records, output)?,
+        ("relation", [a, b]) => print_relation(a, b, output)?,
+        ("compare-replay", [program, count, seed]) => {
+            let (count, seed) = (number(count)?, number(seed)?);
+            same(compare_replay(program, count, seed, output)?)?;
+        }
+        ("script", [count, seed]) => write_script(number(count)?, number(seed)?, output)?,
+        ("answers", []) => {
+            let mut script = Vec::new();
+            io::stdin().lock().read_to_end(&mut script)?;
+            print_answers(&script, output)?;
+        }
+        ("bench", [program]) => same(bench(program, output)?)?,
+        ("recording", [n]) => {
+            let n = number(n)?;
+            let known = LOAD_NODES.contains(&n);
+            let recording = known.then(|| load(n)).ok_or(Failure::Usage)?;
+            output.write_all(&recording)?;
+        }
+        ("long", [bytes]) => write_long(number(bytes)?, output)?,
+        _ => return Err(Failure::Usage),
+    }
+    Ok(())
 }
 
-fn number(word: &OsStr) -> Option<u32> {
-    word.to_str()?.parse().ok()
+fn number<T: FromStr>(word: &OsStr) -> Result<T, Failure> {
+    let number = word.to_str().and_then(|word| word.parse().ok());
+    number.ok_or(Failure::Usage)
+}
+
+fn same(same: bool) -> Result<(), Failure> {
+    if same {
+        Ok(())
+    } else {
+        Err(Failure::Different)
+    }
 }
 
 /// The run's answer, then the final names, one to a line.

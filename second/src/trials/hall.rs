@@ -1,0 +1,463 @@
+//! A simulated hall: honest gateways, faulty ones, and records on their way.
+
+use std::collections::VecDeque;
+
+use crate::answer::TAKEN;
+use crate::node::step_shaped;
+use crate::record::{Kind, Record, RECORD_LEN};
+use crate::rules::{first_votable, freshest, proposer, Firm};
+use crate::state::{Block, Epoch, Name, NodeNo, State, FIRST_EPOCH, LAST_EPOCH, NAME_LEN};
+
+use super::coverage::Coverage;
+use super::damage::{damage, likely};
+use super::random::Random;
+use super::records::{self, RecordBytes};
+
+/// The gateway that the recording is taken at, among the honest ones.
+const RECEIVER: usize = 0;
+/// Out of so many blocks that a faulty gateway hears of, it votes for some.
+pub const ECHO_PARTS: usize = 8;
+/// Happenings for each record wanted, after which a quiet hall is left alone.
+const PATIENCE: usize = 30;
+/// With so many records on their way, one arrives before anything else happens.
+const BUSY: usize = 40;
+/// Records that are still heard once the state is torn.
+const AFTERMATH: usize = 16;
+/// A faulty proposer sends two proposals for one epoch once in so many times.
+const TWO_SIDED: usize = 3;
+/// Of two proposals for one epoch, each gateway hears each once in so many times.
+const ONE_SIDE: usize = 2;
+/// A faulty gateway builds on one of so many newest blocks.
+const NEWEST: usize = 3;
+/// It builds on any block, the genesis too, once in so many times.
+const ANY_PARENT: usize = 5;
+/// It skips to the local epoch, if that is later, once in so many times.
+const LOCAL_EPOCH: usize = 2;
+/// In a quiet hall so many of the newest records are sent again.
+const SENT_AGAIN: usize = 8;
+/// How far from nowhere a faulty clock comes.
+const CLOCKS_AHEAD: usize = 6;
+/// All faulty gateways say the same clock once in so many times.
+const CLOCK_CROWD: usize = 3;
+/// A strange record is sound, or an old one again, once in so many times.
+const SOUND: usize = 6;
+const OLD_AGAIN: usize = 6;
+
+/// What goes on in a hall. The first six say how often each thing happens.
+#[derive(Clone, Copy, Debug)]
+pub struct Habits {
+    /// A record on its way arrives.
+    pub deliver: usize,
+    /// A host proposes or casts out of the blue.
+    pub host: usize,
+    /// A minute is up.
+    pub minute: usize,
+    /// A faulty gateway sends what it likes.
+    pub fault: usize,
+    /// The faulty gateways start another branch.
+    pub fork: usize,
+    /// The receiver hears a strange record.
+    pub strange: usize,
+    /// One of so many oldest records on their way arrives first.
+    pub disorder: usize,
+    /// A record gets lost once in so many times.
+    pub lost: usize,
+    /// A record arrives and stays on its way once in so many times.
+    pub repeated: usize,
+    /// So many of [`ECHO_PARTS`] blocks does a faulty gateway vote for.
+    pub echo: usize,
+    /// At most so many gateways are honest, but for a hall where all are.
+    pub honest: usize,
+}
+
+#[derive(Clone, Copy)]
+enum Happening {
+    Deliver,
+    Host,
+    Minute,
+    Fault,
+    Fork,
+    Strange,
+}
+
+/// What a faulty gateway does next, as often as it does it.
+#[derive(Clone, Copy)]
+enum Fault {
+    Propose,
+    Vote,
+    Clock,
+}
+
+const FAULTS: [(Fault, usize); 3] = [(Fault::Propose, 5), (Fault::Vote, 3), (Fault::Clock, 2)];
+
+/// What ends the quiet of a hall.
+#[derive(Clone, Copy)]
+enum Waking {
+    Propose,
+    Minutes,
+    SendAgain,
+}
+
+const WAKINGS: [Waking; 3] = [Waking::Propose, Waking::Minutes, Waking::SendAgain];
+
+/// How names are made: alike in all bytes but one they test every comparison.
+#[derive(Clone, Copy)]
+enum Names {
+    AnyBytes,
+    OneByteThroughout,
+    ZeroButOneByte,
+}
+
+const NAMES: [Names; 3] = [
+    Names::AnyBytes,
+    Names::OneByteThroughout,
+    Names::ZeroButOneByte,
+];
+
+/// A record on its way to one of the honest gateways.
+struct Letter {
+    to: usize,
+    record: RecordBytes,
+}
+
+/// The hall, and what its receiver heard so far.
+pub struct Hall<'a> {
+    n: u32,
+    habits: Habits,
+    gateways: Vec<State>,
+    faulty: Vec<NodeNo>,
+    letters: VecDeque<Letter>,
+    sent: Vec<Record>,
+    names: Names,
+    names_made: u32,
+    random: &'a mut Random,
+    coverage: &'a mut Coverage,
+    heard: Vec<RecordBytes>,
+}
+
+impl<'a> Hall<'a> {
+    /// A hall of n nodes, so many of them honest, at least the receiver.
+    pub fn new(
+        (n, own): (u32, u32),
+        honest: usize,
+        habits: Habits,
+        random: &'a mut Random,
+        coverage: &'a mut Coverage,
+    ) -> Hall<'a> {
+        let after_own = (0..n).map(|steps| (own + steps) % n);
+        let numbers: Vec<u32> = after_own.collect();
+        let (honest, faulty) = numbers.split_at(honest.clamp(1, n as usize));
+        let names = random.one_of(&NAMES);
+        Hall {
+            n,
+            habits,
+            gateways: honest.iter().map(|own| State::start(n, *own).1).collect(),
+            faulty: faulty.iter().copied().map(NodeNo).collect(),
+            letters: VecDeque::new(),
+            sent: Vec::new(),
+            names,
+            names_made: 0,
+            random,
+            coverage,
+            heard: Vec::new(),
+        }
+    }
+
+    /// All faulty gateways say this clock.
+    pub fn say_clock(&mut self, epoch: Epoch) {
+        for node in self.faulty.clone() {
+            self.send(&records::clock(node, epoch), self.habits.lost);
+        }
+    }
+
+    /// Lets things happen until the receiver heard so many records, or fewer in
+    /// a hall that falls quiet or tears it.
+    pub fn play(&mut self, records: usize) {
+        for _ in 0..records * PATIENCE {
+            if self.heard.len() >= records {
+                return;
+            }
+            if self.receiver().torn {
+                return (0..AFTERMATH).for_each(|_| self.strange());
+            }
+            self.happen();
+        }
+    }
+
+    /// The receiver's state, and all it heard, a short record of so many bytes last.
+    pub fn end(mut self, last_length: usize) -> (State, Vec<u8>) {
+        let record = records::bytes(&self.strange_record());
+        let mut heard = self.heard.concat();
+        let mut end = self.gateways.swap_remove(RECEIVER);
+        if last_length > 0 {
+            let short = &record[..last_length];
+            let answer = step_shaped(&mut end, short, &mut [0; RECORD_LEN]);
+            self.coverage.count_record(short, answer);
+            heard.extend(short);
+        }
+        (end, heard)
+    }
+
+    fn receiver(&self) -> &State {
+        &self.gateways[RECEIVER]
+    }
+
+    fn happen(&mut self) {
+        let habits = self.habits;
+        if self.letters.len() > BUSY {
+            return self.deliver();
+        }
+        let happening = self.random.weighted(&[
+            (Happening::Deliver, habits.deliver),
+            (Happening::Host, habits.host),
+            (Happening::Minute, habits.minute),
+            (Happening::Fault, habits.fault),
+            (Happening::Fork, habits.fork),
+            (Happening::Strange, habits.strange),
+        ]);
+        let anyone = self.random.below(self.gateways.len());
+        match happening {
+            Happening::Deliver => self.deliver(),
+            Happening::Host => self.call_host(anyone, true),
+            Happening::Minute => {
+                let minute = records::minute(self.gateways[anyone].own);
+                self.hand_over(anyone, &records::bytes(&minute));
+            }
+            Happening::Fault => self.fault(),
+            Happening::Fork => self.fork(),
+            Happening::Strange => self.strange(),
+        }
+    }
+
+    /// One of the oldest records on their way arrives; where none is, all act.
+    fn deliver(&mut self) {
+        if self.letters.is_empty() {
+            return self.wake();
+        }
+        let oldest = self.letters.len().min(self.habits.disorder);
+        let next = self.random.below(oldest);
+        let Some(letter) = self.letters.remove(next) else {
+            return;
+        };
+        self.hand_over(letter.to, &letter.record);
+        if self.random.once_in(self.habits.repeated) {
+            self.letters.push_back(letter);
+        }
+    }
+
+    /// Steps a gateway; what it sends goes on its way, and its host reacts.
+    fn hand_over(&mut self, to: usize, record: &RecordBytes) {
+        let mut sent = [0; RECORD_LEN];
+        let gateway = &mut self.gateways[to];
+        let before = (gateway.local, gateway.count);
+        let answer = step_shaped(gateway, record, &mut sent);
+        let changed = (gateway.local, gateway.count) != before;
+        if to == RECEIVER {
+            self.heard.push(*record);
+            self.coverage.count_record(record, answer);
+        }
+        if answer != TAKEN {
+            return;
+        }
+        match Record::read(&sent) {
+            Some(sent) if Kind::read(sent.kind).is_some() => self.send(&sent, self.habits.lost),
+            _ => {}
+        }
+        if changed {
+            self.call_host(to, false);
+        }
+    }
+
+    /// A host says "propose now" in its turn, and "cast a vote now" where it
+    /// sees a block to vote for or acts blindly.
+    fn call_host(&mut self, who: usize, blindly: bool) {
+        let gateway = &self.gateways[who];
+        let own = gateway.own;
+        let casts = blindly || first_votable(gateway).is_some();
+        let in_turn = proposer(self.n, gateway.local) == Some(own);
+        if in_turn && gateway.proposed != gateway.local {
+            let propose = records::propose(own, self.new_name(), self.random.bytes());
+            self.post(who, &propose);
+        }
+        if casts {
+            self.post(who, &records::cast(own));
+        }
+    }
+
+    /// Nothing is on its way: something is done about it.
+    fn wake(&mut self) {
+        match self.random.one_of(&WAKINGS) {
+            Waking::Propose => self.call_proposer(),
+            Waking::Minutes => {
+                self.say_clock(self.receiver().local.next());
+                for to in 0..self.gateways.len() {
+                    self.post(to, &records::minute(self.gateways[to].own));
+                }
+            }
+            Waking::SendAgain => {
+                let older = self.sent.len().saturating_sub(SENT_AGAIN);
+                for record in self.sent.split_off(older) {
+                    self.send(&record, self.habits.lost);
+                }
+            }
+        }
+    }
+
+    /// Hosts do what is to be done, and so does a faulty proposer in its turn.
+    fn call_proposer(&mut self) {
+        for who in 0..self.gateways.len() {
+            self.call_host(who, false);
+        }
+        let local = self.receiver().local;
+        if let Some(node) = self.faulty_proposer(local) {
+            let freshest = freshest(self.receiver(), &Firm::of(self.receiver()));
+            let parent = self.receiver().row(freshest).name;
+            self.propose_as(node, local, parent, self.habits.lost);
+        }
+    }
+
+    /// Puts a record on its way to one gateway.
+    fn post(&mut self, to: usize, record: &Record) {
+        let record = records::bytes(record);
+        self.letters.push_back(Letter { to, record });
+    }
+
+    /// A record goes to every other honest gateway, where it isn't lost; the
+    /// faulty ones hear at once of a block and vote for it as they like.
+    fn send(&mut self, record: &Record, lost: usize) {
+        for to in 0..self.gateways.len() {
+            if self.gateways[to].own != record.sender && !self.random.once_in(lost) {
+                self.post(to, record);
+            }
+        }
+        self.sent.push(record.clone());
+        if record.kind == Kind::Proposal.number() {
+            for node in self.faulty.clone() {
+                if self.random.below(ECHO_PARTS) < self.habits.echo {
+                    self.send(&records::vote(node, record.name), lost);
+                }
+            }
+        }
+    }
+
+    fn fault(&mut self) {
+        if self.faulty.is_empty() {
+            return self.strange();
+        }
+        let node = self.random.one_of(&self.faulty);
+        match self.random.weighted(&FAULTS) {
+            Fault::Propose => self.faulty_proposal(),
+            Fault::Vote => {
+                let name = self.faulty_parent().name;
+                self.send(&records::vote(node, name), self.habits.lost);
+            }
+            Fault::Clock => {
+                let ahead = self.random.below(CLOCKS_AHEAD) as u32;
+                let epoch = Epoch(self.receiver().local.0.saturating_add(ahead));
+                if self.random.once_in(CLOCK_CROWD) {
+                    self.say_clock(epoch);
+                } else {
+                    self.send(&records::clock(node, epoch), self.habits.lost);
+                }
+            }
+        }
+    }
+
+    /// The proposer of this epoch, if it is a faulty one.
+    fn faulty_proposer(&self, epoch: Epoch) -> Option<NodeNo> {
+        let in_range = (FIRST_EPOCH..LAST_EPOCH).contains(&epoch);
+        let node = proposer(self.n, epoch).filter(|_| in_range)?;
+        self.faulty.contains(&node).then_some(node)
+    }
+
+    /// The first faulty proposer from this epoch on, and its epoch.
+    fn faulty_turn(&self, from: Epoch) -> Option<(Epoch, NodeNo)> {
+        let mut epochs = (0..self.n).map(|ahead| Epoch(from.0.saturating_add(ahead)));
+        epochs.find_map(|epoch| Some((epoch, self.faulty_proposer(epoch)?)))
+    }
+
+    /// A new block; returns its name.
+    fn propose_as(&mut self, node: NodeNo, epoch: Epoch, parent: Name, lost: usize) -> Name {
+        let (name, payload) = (self.new_name(), self.random.bytes());
+        self.send(&records::proposal(epoch, node, name, parent, payload), lost);
+        name
+    }
+
+    /// A proposal in a faulty gateway's turn on any block, sometimes one of two.
+    fn faulty_proposal(&mut self) {
+        let parent = self.faulty_parent();
+        let mut from = parent.epoch.next();
+        if self.random.once_in(LOCAL_EPOCH) {
+            from = from.max(self.receiver().local);
+        }
+        let Some((epoch, node)) = self.faulty_turn(from) else {
+            return;
+        };
+        if self.random.once_in(TWO_SIDED) {
+            self.propose_as(node, epoch, parent.name, ONE_SIDE);
+            self.propose_as(node, epoch, parent.name, ONE_SIDE);
+        } else {
+            self.propose_as(node, epoch, parent.name, self.habits.lost);
+        }
+    }
+
+    /// Two blocks in a row, fresher than all others, on any block: they tear a
+    /// state whose kept final block they pass by.
+    fn fork(&mut self) {
+        let place = self.random.below(self.gateways[RECEIVER].count + 1);
+        let parent = self.receiver().blocks[place];
+        let from = parent.epoch.next().max(self.receiver().local);
+        let Some((epoch, node)) = self.faulty_turn(from) else {
+            return;
+        };
+        let first = self.propose_as(node, epoch, parent.name, self.habits.lost);
+        if let Some(node) = self.faulty_proposer(epoch.next()) {
+            self.propose_as(node, epoch.next(), first, self.habits.lost);
+        }
+    }
+
+    /// Mostly one of the newest blocks that the receiver holds.
+    fn faulty_parent(&mut self) -> Block {
+        let rows = self.receiver().count + 1;
+        let back = if self.random.once_in(ANY_PARENT) {
+            self.random.below(rows)
+        } else {
+            self.random.below(rows.min(NEWEST))
+        };
+        self.receiver().blocks[rows - 1 - back]
+    }
+
+    /// The receiver hears a strange record, or an old one again.
+    fn strange(&mut self) {
+        let record = if self.random.once_in(OLD_AGAIN) && !self.heard.is_empty() {
+            self.random.one_of(&self.heard)
+        } else {
+            records::bytes(&self.strange_record())
+        };
+        self.hand_over(RECEIVER, &record);
+    }
+
+    fn strange_record(&mut self) -> Record {
+        let name = self.new_name();
+        let receiver = &self.gateways[RECEIVER];
+        let mut record = likely(self.random, receiver, name);
+        if !self.random.once_in(SOUND) {
+            damage(self.random, receiver, &mut record);
+        }
+        record
+    }
+
+    fn new_name(&mut self) -> Name {
+        self.names_made += 1;
+        let at = self.names_made as usize % NAME_LEN;
+        match (self.names, u8::try_from(self.names_made)) {
+            (Names::OneByteThroughout, Ok(made)) => [made; NAME_LEN],
+            (Names::ZeroButOneByte, Ok(made)) => {
+                let mut name = Name::default();
+                name[at] = made;
+                name
+            }
+            _ => self.random.bytes(),
+        }
+    }
+}
