@@ -1,5 +1,20 @@
--- The laws of the meaning that code cites, and the cases of 01, computed.
+-- The laws of the meaning that code cites, the cases of 01, computed, and demand 3.
 pub mod Counts
 pub mod Rows
 pub mod Cases
 pub mod Examples
+-- the shape and what keeps it
+pub mod Tests
+pub mod Falls
+pub mod Grown
+pub mod Shapes
+pub mod Sized
+pub mod Places
+pub mod Moves
+pub mod Keeps
+pub mod Sent
+pub mod Calls
+-- a recording in pieces
+pub mod Stretches
+-- demand 3
+pub mod Demand

@@ -11,3 +11,6 @@ pub mod Lists
 pub mod Run
 pub mod Lines
 pub mod Cases
+pub mod Safety
+pub mod Events
+pub mod Shown

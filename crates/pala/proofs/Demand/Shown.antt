@@ -1,0 +1,197 @@
+-- Demand 3 for the bytes written: by the final-list function, and by two runs of the firmware. Assumes nothing.
+use Prim.Native.Nat.{ℕ, suc, _+_, _*_, _%_, _≤_, _<_, zero-le, suc-le-suc}
+use mathlib.Core.Bool.{Bool, true, false, not, _&&_}
+use mathlib.Core.List.{List, [], _∷_, _++_}
+use mathlib.Core.Logic.{_⊎_, inl, inr}
+use mathlib.Core.Path.{_≡_, refl, sym, ap, subst, subst₂, _∙_}
+use native.Mathlib.Omega.{arith}
+use lib.Dec.{eqb}
+use lib.ListN.{length, take, drop, length-append, length-take}
+use lib.Seq.{take-at, getD-take}
+use borrow.Author.Tests.{eqb-true}
+use Rattle.table.specs.declared.Answer.{Answer}
+use Rattle.table.specs.declared.Block.{Block}
+use Rattle.table.specs.declared.State.{State}
+use Rattle.table.specs.Scan.{pick}
+use Rattle.table.specs.Rows.{capacity, nameBytes, rows, size, at}
+use Rattle.pala.specs.Answers.{number, taken, lowestOf, badLength, shapedRows, allRows}
+use Rattle.pala.specs.Record.{recordBytes}
+use Rattle.pala.specs.Effects.{effect}
+use Rattle.pala.specs.Lists.{joined, finalNames, finalList, listed, listAnswer}
+use Rattle.pala.specs.Rules.{parentOf}
+use Rattle.pala.specs.Run.{stretches, lent, played, ran, run, runAnswer, runCode}
+use Rattle.pala.specs.Shape.{wellShaped}
+use Rattle.pala.specs.Step.{step, start, outcome, room}
+use Rattle.pala.specs.Steps.{settled}
+use Rattle.pala.specs.Safety.{Event, Run, eventAt, after, follow, stateAt, shownAt, OneBegins}
+use Rattle.pala.specs.Shown.{written, SafeLists, recordsOf, PlayedBy, ranWritten, SafeRuns}
+use Rattle.pala.proofs.Demand.Tables.{parent-below}
+use Rattle.pala.proofs.Demand.Ancestors.{climb}
+use Rattle.pala.proofs.Demand.Freshest.{kept-in}
+use Rattle.pala.proofs.Demand.Sound.{Sound}
+use Rattle.pala.proofs.Demand.Healthy.{Healthy, healthy-size}
+use Rattle.pala.proofs.Demand.Runs.{reached}
+use Rattle.pala.proofs.Demand.Names.{namesTo, names-zero, names-up}
+use Rattle.pala.proofs.Demand.Safety.{joined-append, safe}
+
+-- the names to a place: no more than the place counts, 32 bytes each
+pub names-few : (t : List Block) (p : ℕ) → length (namesTo t p) ≤ p
+names-few t = climb t (λ p. length (namesTo t p) ≤ p) (omega (arith, ap length (names-zero t))) step
+  where
+    step : (p : ℕ) → 0 < p → length (namesTo t (parentOf t p)) ≤ parentOf t p → length (namesTo t p) ≤ p
+    step p pos ih =
+        omega (
+          arith,
+          ap length (names-up t p pos),
+          length-append (namesTo t (parentOf t p)) (at t p .name ∷ []),
+          parent-below t p pos,
+        )
+
+pub names-long : {n : ℕ} {t : List Block} → Sound n t → (p : ℕ) → p < size t → length (joined (namesTo t p)) ≡ nameBytes * length (namesTo t p)
+unfolding joined
+names-long {n} {t} s = climb t (λ p. p < size t → length (joined (namesTo t p)) ≡ nameBytes * length (namesTo t p)) base step
+  where
+    base : 0 < size t → length (joined (namesTo t 0)) ≡ nameBytes * length (namesTo t 0)
+    base _ = ap (λ l. length (joined l)) (names-zero t) ∙ sym (ap (λ l. nameBytes * length l) (names-zero t))
+
+    step : (p : ℕ) → 0 < p
+        → (parentOf t p < size t → length (joined (namesTo t (parentOf t p))) ≡ nameBytes * length (namesTo t (parentOf t p)))
+        → p < size t → length (joined (namesTo t p)) ≡ nameBytes * length (namesTo t p)
+    step p pos ih h =
+        omega (
+          arith,
+          ap length (names-up t p pos),
+          length-append up (at t p .name ∷ []),
+          ap (λ l. length (joined l)) (names-up t p pos),
+          ap length (joined-append up (at t p .name ∷ [])),
+          length-append (joined up) (at t p .name ++ []),
+          length-append (at t p .name) [],
+          s .row p pos h .long,
+          ih (omega (arith, parent-below t p pos)),
+        )
+      where
+        up : List (List ℕ)
+        up = namesTo t (parentOf t p)
+
+-- as many names as were counted: all of them, or none
+cut : (b : Bool) (l : List (List ℕ)) (rest x : List ℕ) → length (joined l) ≡ nameBytes * length l
+    → (take (nameBytes * pick b (length l) 0) (pick b (joined l ++ rest) x) ≡ joined l)
+    ⊎ (take (nameBytes * pick b (length l) 0) (pick b (joined l ++ rest) x) ≡ [])
+unfolding pick
+cut true l rest x e = inl (take-at (joined l) rest (nameBytes * length l) e)
+cut false l rest x e = inr refl
+
+finals-are : (s : State) → finalNames s ≡ namesTo (rows s) (s .kept .0)
+unfolding finalNames namesTo
+finals-are s = refl
+
+-- what the final-list function writes: the final names, or nothing
+written-is : (s : State) → Healthy s → (x : List ℕ) → (written (finalList s x) ≡ joined (finalNames s)) ⊎ (written (finalList s x) ≡ [])
+unfolding finalList listed
+written-is s h x =
+    cut (taken (listAnswer s x)) (finalNames s) (drop (nameBytes * length (finalNames s)) x) x
+    (subst (λ l. length (joined l) ≡ nameBytes * length l) (sym (finals-are s))
+    (names-long (h .sound) (s .kept .0) (kept-in (h .sound .some) (h .kept))))
+
+counted-few : (s : State) → Healthy s → (x : List ℕ) → finalList s x .count ≤ capacity
+unfolding finalList listed pick
+counted-few s h x = go (taken (listAnswer s x))
+  where
+    go : (b : Bool) → pick b (length (finalNames s)) 0 ≤ capacity
+    go true =
+        omega (
+          arith,
+          ap length (finals-are s),
+          names-few (rows s) (s .kept .0),
+          kept-in (h .sound .some) (h .kept),
+          healthy-size h,
+          h .room,
+        )
+    go false = omega arith
+
+-- lists that are the shown ones, or empty, begin one another where the shown ones do
+or-empty : {a b x y : List ℕ} → OneBegins a b → (x ≡ a) ⊎ (x ≡ []) → (y ≡ b) ⊎ (y ≡ []) → OneBegins x y
+or-empty {y = y} o (inr e) f = inl (y, ap (λ l. l ++ y) e)
+or-empty {x = x} o (inl e) (inr f) = inr (x, ap (λ l. l ++ x) f)
+or-empty o (inl e) (inl f) = subst₂ OneBegins (sym e) (sym f) o
+
+pub safe-lists : SafeLists
+unfolding shownAt
+safe-lists n honest run pr i j a b hi hj x y =
+    or-empty (safe n honest run pr i j a b hi hj)
+    (written-is (stateAt n run a i) (reached n i (pr .some) (pr .most) (hi .0) run a) x)
+    (written-is (stateAt n run b j) (reached n j (pr .some) (pr .most) (hj .0) run b) y)
+
+-- a state depends on the out buffer by its length alone
+step-lent : (s : State) (r out : List ℕ) → length out ≡ recordBytes → step s r out .state ≡ step s r lent .state
+unfolding step outcome allRows badLength lent
+step-lent s r out e =
+    ap (λ b. pick (taken (pick (not (wellShaped s)) Answer.State (pick (s .torn) Answer.Torn (pick b Answer.Length rest)))) (settled (effect s r)) s)
+    (ap (λ k. not (eqb (length r) recordBytes && eqb k recordBytes)) e)
+  where
+    rest : Answer
+    rest = lowestOf (drop 2 (shapedRows room s r []))
+
+-- the records of gateway i played one after the other bring it where the run does
+follow-played : (i : ℕ) (events : Run) → ((k : ℕ) → k < length events → eventAt events k .to ≡ i → length (eventAt events k .buffer) ≡ recordBytes)
+    → (s : State) → follow i s events ≡ played s (recordsOf i events)
+unfolding follow after played recordsOf
+follow-played i [] h s = refl
+follow-played i (e ∷ more) h s = go (eqb (e .to) i) refl (follow-played i more (λ k l. h (suc k) (suc-le-suc l)))
+  where
+    go : (b : Bool) → eqb (e .to) i ≡ b → ((u : State) → follow i u more ≡ played u (recordsOf i more))
+        → follow i (pick b (step s (e .bytes) (e .buffer) .state) s) more
+        ≡ played s (elim b as (λ _. List (List ℕ)) [ true ↦ e .bytes ∷ recordsOf i more | false ↦ recordsOf i more ])
+    go true k ih =
+        ap (λ u. follow i u more) (step-lent s (e .bytes) (e .buffer) (h 0 (suc-le-suc zero-le) (eqb-true (e .to) i k)))
+        ∙ ih (step s (e .bytes) lent .state)
+    go false k ih = ih s
+
+state-played : (n : ℕ) (events : Run) (m i : ℕ) (slice : List ℕ) → PlayedBy events m i slice
+    → stateAt n events m i ≡ played (start n i .state) (stretches slice)
+unfolding stateAt
+state-played n events m i slice w =
+    follow-played i (take m events) buffers (start n i .state) ∙ ap (played (start n i .state)) (w .records)
+  where
+    buffers : (k : ℕ) → k < length (take m events) → eventAt (take m events) k .to ≡ i → length (eventAt (take m events) k .buffer) ≡ recordBytes
+    buffers k l e =
+        let s : k < m = omega (arith, length-take m events) in
+        let same = getD-take m events k (eventAt [] 0) s in
+        ap (λ (v : Event). length (v .buffer)) same
+        ∙ w .buffers k s (omega (arith, length-take m events)) (sym (ap (λ (v : Event). v .to) same) ∙ e)
+
+-- the count that a run's code tells
+code-count : (k c : ℕ) → c < 65536 → (k * 65536 + c) % 65536 ≡ c
+code-count k c h = omega arith
+
+code-written : (b : Bool) (k c : ℕ) (l x names : List ℕ) → c < 65536
+    → (take (nameBytes * c) l ≡ names) ⊎ (take (nameBytes * c) l ≡ [])
+    → (take (nameBytes * ((k * 65536 + pick b c 0) % 65536)) (pick b l x) ≡ names)
+    ⊎ (take (nameBytes * ((k * 65536 + pick b c 0) % 65536)) (pick b l x) ≡ [])
+unfolding pick
+code-written true k c l x names h w =
+    subst (λ m. (take (nameBytes * m) l ≡ names) ⊎ (take (nameBytes * m) l ≡ [])) (sym (code-count k c h)) w
+code-written false k c l x names h w = inr (ap (λ m. take (nameBytes * m) x) (code-count k 0 (omega arith)))
+
+-- what a run writes: the final names of the state that its records lead to, or nothing
+ran-is : (n i : ℕ) (slice x : List ℕ) (s : State) → Healthy s → s ≡ played (start n i .state) (stretches slice)
+    → (ranWritten (run n i slice x) ≡ joined (finalNames s)) ⊎ (ranWritten (run n i slice x) ≡ [])
+unfolding run ran runCode
+ran-is n i slice x s h e =
+    subst (λ u. (of u ≡ joined (finalNames s)) ⊎ (of u ≡ [])) e
+    (code-written (taken a) (number a) (finalList s x .count) (finalList s x .list) x (joined (finalNames s))
+    (omega (arith, counted-few s h x)) (written-is s h x))
+  where
+    a : Answer
+    a = runAnswer n i slice x
+
+    of : State → List ℕ
+    of u =
+        take (nameBytes * ((number a * 65536 + pick (taken a) (finalList u x .count) 0) % 65536)) (pick (taken a) (finalList u x .list) x)
+
+pub safe-runs : SafeRuns
+unfolding shownAt
+safe-runs n honest events pr i j a b hi hj p q wp wq x y =
+    or-empty (safe n honest events pr i j a b hi hj)
+    (ran-is n i p x (stateAt n events a i) (reached n i (pr .some) (pr .most) (hi .0) events a) (state-played n events a i p wp))
+    (ran-is n j q y (stateAt n events b j) (reached n j (pr .some) (pr .most) (hj .0) events b) (state-played n events b j q wq))

@@ -1,0 +1,53 @@
+-- What tests tell, beside the laws of `table`. Assumes nothing.
+use Prim.Native.Nat.{ℕ}
+use mathlib.Core.Bool.{Bool, true, false, _&&_, _||_, true≢false}
+use mathlib.Core.List.{List}
+use mathlib.Core.Logic.{_⊎_, inl, inr}
+use mathlib.Core.Path.{_≡_, refl, sym}
+use Rattle.table.proofs.Laws.{same-refl}
+use Rattle.table.specs.Bytes.{same}
+
+pub and-l : (a b : Bool) → (a && b) ≡ true → a ≡ true
+and-l true b e = refl
+and-l false b e = e
+
+pub and-r : (a b : Bool) → (a && b) ≡ true → b ≡ true
+and-r true b e = e
+and-r false b e = absurd (true≢false (sym e))
+
+pub and-both : (a b : Bool) → a ≡ true → b ≡ true → (a && b) ≡ true
+and-both true b p q = q
+and-both false b p q = p
+
+pub or-cases : (a b : Bool) → (a || b) ≡ true → (a ≡ true) ⊎ (b ≡ true)
+or-cases true b e = inl refl
+or-cases false b e = inr e
+
+pub or-l : (a b : Bool) → a ≡ true → (a || b) ≡ true
+or-l true b e = refl
+or-l false b e = absurd (true≢false (sym e))
+
+pub or-r : (a b : Bool) → b ≡ true → (a || b) ≡ true
+or-r true b e = refl
+or-r false b e = e
+
+-- neither of two: what a refused disjunction tells
+pub nor-l : (a b : Bool) → (a || b) ≡ false → a ≡ false
+nor-l true b e = e
+nor-l false b e = refl
+
+pub nor-r : (a b : Bool) → (a || b) ≡ false → b ≡ false
+nor-r true b e = absurd (true≢false e)
+nor-r false b e = e
+
+-- a conjunction that fails where its first part holds
+pub nand : (a b : Bool) → (a && b) ≡ false → a ≡ true → b ≡ false
+nand true b e h = e
+nand false b e h = absurd (true≢false (sym h))
+
+pub either : (a : Bool) → (a ≡ true) ⊎ (a ≡ false)
+either true = inl refl
+either false = inr refl
+
+pub same-eq : (a b : List ℕ) → a ≡ b → same a b ≡ true
+same-eq a b e = rw e (same-refl b)

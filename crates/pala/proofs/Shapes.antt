@@ -1,0 +1,404 @@
+-- What a well-shaped state has, clause by clause of 01's "A state is well shaped when ..", as plain facts; and the other way. Assumes nothing.
+use Prim.Native.Nat.{ℕ, zero, suc, _≤_, _<_, zero-le}
+use mathlib.Core.Bool.{Bool, true, false, not, _&&_, _||_, and-eq-true-iff, and-false, true≢false, false≢true}
+use mathlib.Core.List.{List, [], _∷_}
+use mathlib.Core.Logic.{_⊎_, inl, inr, ⊎-elim}
+use mathlib.Core.Path.{_≡_, refl, sym, ap, _∙_}
+use native.Mathlib.Decide.{decLe, decLt}
+use native.Mathlib.Omega.{arith}
+use borrow.Author.Tests.{ltb-true, ltb-false, leb-true, eqb-true, lt-ltb, le-ltb, le-leb, lt-leb, eq-eqb, not-true}
+use lib.Dec.{ltb, leb, eqb}
+use lib.ListN.{length, getD, take, replicate, getD-replicate}
+use Rattle.table.specs.declared.Block.{Block}
+use Rattle.table.specs.declared.Epoch.{Epoch}
+use Rattle.table.specs.declared.State.{State}
+use Rattle.table.specs.Scan.{allBelow}
+use Rattle.table.specs.Bytes.{same, zeros}
+use Rattle.table.specs.Rows.{capacity, mostNodes, nameBytes, payloadBytes, blank, rows, at, hasVoter, plain, fresh, allZero}
+use Rattle.table.proofs.Laws.{pick-yes, pick-no, allBelow-at, allBelow-all, zeros-true}
+use Rattle.pala.specs.Counts.{topEpoch, blockEpoch, clockOf, nodes}
+use Rattle.pala.specs.Rules.{epochAt}
+use Rattle.pala.specs.Shape.{nameOk, parentOk, votersOk, blockOk, noVoters, isBlank, placeOk, tableOk, clocksOk, wellShaped}
+
+-- ---- tests
+
+pub and-l : (a b : Bool) → (a && b) ≡ true → a ≡ true
+and-l a b h = and-eq-true-iff a b .0 h .0
+
+pub and-r : (a b : Bool) → (a && b) ≡ true → b ≡ true
+and-r a b h = and-eq-true-iff a b .0 h .1
+
+pub and-both : (a b : Bool) → a ≡ true → b ≡ true → (a && b) ≡ true
+and-both a b h k = and-eq-true-iff a b .1 (h, k)
+
+-- of two where the first fails the second holds
+pub or-r : (a b : Bool) → (a || b) ≡ true → a ≡ false → b ≡ true
+or-r true b h e = absurd (true≢false e)
+or-r false b h e = h
+
+pub or-of : (a b : Bool) → (a ≡ false → b ≡ true) → (a || b) ≡ true
+or-of true b f = refl
+or-of false b f = f refl
+
+-- two tests that pass alike are the same
+pub alike : (a b : Bool) → (a ≡ true → b ≡ true) → (b ≡ true → a ≡ true) → a ≡ b
+alike true b f g = sym (f refl)
+alike false true f g = g refl
+alike false false f g = refl
+
+-- what is asked of the numbers from n on, and of those below it nothing
+pub from-at : (k n : ℕ) (ok : ℕ → Bool) → allBelow k (λ i. ltb i n || ok i) ≡ true → (i : ℕ) → n ≤ i → i < k → ok i ≡ true
+from-at k n ok h i l m = or-r (ltb i n) (ok i) (allBelow-at k (λ j. ltb j n || ok j) h i m) (le-ltb i n l)
+
+pub from-all : (k n : ℕ) (ok : ℕ → Bool) → ((i : ℕ) → n ≤ i → i < k → ok i ≡ true) → allBelow k (λ i. ltb i n || ok i) ≡ true
+from-all k n ok h =
+    allBelow-all k (λ j. ltb j n || ok j) (λ i m. or-of (ltb i n) (ok i) (λ e. h i (omega (arith, ltb-false i n e)) m))
+
+-- ---- the nodes
+
+-- "n is 1 to 32, own number below n"
+pub nodes-are : (n own : ℕ) → nodes n own ≡ true → (0 < n) × (n ≤ mostNodes) × (own < n)
+unfolding nodes
+nodes-are n own h =
+    let a = ltb 0 n in
+    let b = leb n mostNodes in
+    let c = ltb own n in
+    let ab = and-l (a && b) c h in
+    (ltb-true 0 n (and-l a b ab), leb-true n mostNodes (and-r a b ab), ltb-true own n (and-r (a && b) c h))
+
+pub nodes-of : (n own : ℕ) → (0 < n) × (n ≤ mostNodes) × (own < n) → nodes n own ≡ true
+unfolding nodes
+nodes-of n own h =
+    let a = ltb 0 n in
+    let b = leb n mostNodes in
+    and-both (a && b) (ltb own n) (and-both a b (lt-ltb 0 n (h .0)) (le-leb n mostNodes (h .1))) (lt-ltb own n (h .2))
+
+-- ---- the clocks
+
+pub clocks-are : (n : ℕ) (clocks : List Epoch) → clocksOk n clocks ≡ true → (i : ℕ) → n ≤ i → i < mostNodes → clockOf clocks i ≡ 0
+unfolding clocksOk
+clocks-are n clocks h i l m = eqb-true (clockOf clocks i) 0 (from-at mostNodes n (λ j. eqb (clockOf clocks j) 0) h i l m)
+
+pub clocks-of : (n : ℕ) (clocks : List Epoch) → ((i : ℕ) → n ≤ i → i < mostNodes → clockOf clocks i ≡ 0) → clocksOk n clocks ≡ true
+unfolding clocksOk
+clocks-of n clocks h = from-all mostNodes n (λ i. eqb (clockOf clocks i) 0) (λ i l m. eq-eqb (clockOf clocks i) 0 (h i l m))
+
+-- ---- a block in order
+
+pub voters-of : (n : ℕ) (b : Block) → ((i : ℕ) → n ≤ i → i < mostNodes → hasVoter b i ≡ false) → votersOk n b ≡ true
+unfolding votersOk
+voters-of n b h = from-all mostNodes n (λ i. not (hasVoter b i)) (λ i l m. ap not (h i l m))
+
+module _ (n : ℕ) (t : List Block) (p : ℕ) where
+  record Block-tests : Type 0 where
+    name : nameOk t p ≡ true
+    parent : parentOk t p ≡ true
+    epoch : blockEpoch (epochAt t p) ≡ true
+    voters : votersOk n (at t p) ≡ true
+
+  block-tests : blockOk n t p ≡ true → Block-tests
+  unfolding blockOk
+  block-tests h =
+      let a = nameOk t p in
+      let b = parentOk t p in
+      let c = blockEpoch (epochAt t p) in
+      let d = votersOk n (at t p) in
+      let abc = and-l (a && b && c) d h in
+      let ab = and-l (a && b) c abc in
+      record { name = and-l a b ab; parent = and-r a b ab; epoch = and-r (a && b) c abc; voters = and-r (a && b && c) d h }
+
+  module _ (h : blockOk n t p ≡ true) where
+    -- "no block name all zero"
+    pub block-name : zeros (at t p .name) ≡ false
+    unfolding nameOk
+    block-name = not-true (zeros (at t p .name)) (and-l (not (zeros (at t p .name))) (allBelow p (λ q. not (same (at t q .name) (at t p .name)))) (block-tests h .name))
+
+    -- "and no two alike"
+    pub block-apart : (q : ℕ) → q < p → same (at t q .name) (at t p .name) ≡ false
+    unfolding nameOk
+    block-apart q l =
+        let below : ℕ → Bool = λ r. not (same (at t r .name) (at t p .name)) in
+        not-true (same (at t q .name) (at t p .name)) (allBelow-at p below (and-r (not (zeros (at t p .name))) (allBelow p below) (block-tests h .name)) q l)
+
+    -- "each block's parent at a lower place"
+    pub block-parent : at t p .parent .0 < p
+    unfolding parentOk
+    block-parent = ltb-true (at t p .parent .0) p (and-l (ltb (at t p .parent .0) p) (ltb (epochAt t (at t p .parent .0)) (epochAt t p)) (block-tests h .parent))
+
+    -- "and of a smaller epoch"
+    pub block-parent-epoch : epochAt t (at t p .parent .0) < epochAt t p
+    unfolding parentOk
+    block-parent-epoch =
+        ltb-true (epochAt t (at t p .parent .0)) (epochAt t p)
+        (and-r (ltb (at t p .parent .0) p) (ltb (epochAt t (at t p .parent .0)) (epochAt t p)) (block-tests h .parent))
+
+    -- "each block epoch in range"
+    pub block-epoch : (0 < epochAt t p) × (epochAt t p < topEpoch)
+    unfolding blockEpoch
+    block-epoch =
+        let e = epochAt t p in
+        (ltb-true 0 e (and-l (ltb 0 e) (ltb e topEpoch) (block-tests h .epoch)), ltb-true e topEpoch (and-r (ltb 0 e) (ltb e topEpoch) (block-tests h .epoch)))
+
+    -- "voters only below n"
+    pub block-voters : votersOk n (at t p) ≡ true
+    block-voters = block-tests h .voters
+
+    pub block-voter : (i : ℕ) → n ≤ i → i < mostNodes → hasVoter (at t p) i ≡ false
+    unfolding votersOk
+    block-voter i l m = not-true (hasVoter (at t p) i) (from-at mostNodes n (λ j. not (hasVoter (at t p) j)) (block-tests h .voters) i l m)
+
+  -- the other way
+  pub block-of : zeros (at t p .name) ≡ false
+      → ((q : ℕ) → q < p → same (at t q .name) (at t p .name) ≡ false)
+      → at t p .parent .0 < p
+      → epochAt t (at t p .parent .0) < epochAt t p
+      → epochAt t p < topEpoch
+      → votersOk n (at t p) ≡ true
+      → blockOk n t p ≡ true
+  unfolding blockOk nameOk parentOk blockEpoch
+  block-of name apart parent up top voters =
+      let e = epochAt t p in
+      let below : ℕ → Bool = λ r. not (same (at t r .name) (at t p .name)) in
+      let a = not (zeros (at t p .name)) && allBelow p below in
+      let b = ltb (at t p .parent .0) p && ltb (epochAt t (at t p .parent .0)) e in
+      let c = ltb 0 e && ltb e topEpoch in
+      let d = votersOk n (at t p) in
+      and-both (a && b && c) d
+      (and-both (a && b) c
+      (and-both a b
+      (and-both (not (zeros (at t p .name))) (allBelow p below) (ap not name) (allBelow-all p below (λ q l. ap not (apart q l))))
+      (and-both (ltb (at t p .parent .0) p) (ltb (epochAt t (at t p .parent .0)) e) (lt-ltb (at t p .parent .0) p parent) (lt-ltb (epochAt t (at t p .parent .0)) e up)))
+      (and-both (ltb 0 e) (ltb e topEpoch) (lt-ltb 0 e (omega arith)) (lt-ltb e topEpoch top)))
+      voters
+
+-- ---- a row of zeros
+
+noVoters-true : (l : List Bool) → noVoters l ≡ true → l ≡ replicate (length l) false
+unfolding noVoters
+noVoters-true [] h = refl
+noVoters-true (true ∷ l) h = absurd (false≢true h)
+noVoters-true (false ∷ l) h = ap (λ (k : List Bool). false ∷ k) (noVoters-true l h)
+
+noVoters-replicate : (n : ℕ) → noVoters (replicate n false) ≡ true
+unfolding noVoters
+noVoters-replicate zero = refl
+noVoters-replicate (suc n) = noVoters-replicate n
+
+module _ (b : Block) where
+  pub record Blank-tests : Type 0 where
+    pub name : zeros (b .name) ≡ true
+    pub payload : zeros (b .payload) ≡ true
+    pub voters : noVoters (b .voters) ≡ true
+    pub epoch : b .epoch .0 ≡ 0
+    pub parent : b .parent .0 ≡ 0
+
+  pub blank-tests : isBlank b ≡ true → Blank-tests
+  unfolding isBlank
+  blank-tests h =
+      let v = zeros (b .name) in
+      let w = zeros (b .payload) in
+      let x = noVoters (b .voters) in
+      let y = eqb (b .epoch .0) 0 in
+      let z = eqb (b .parent .0) 0 in
+      let vwxy = and-l (v && w && x && y) z h in
+      let vwx = and-l (v && w && x) y vwxy in
+      let vw = and-l (v && w) x vwx in
+      record {
+        name = and-l v w vw;
+        payload = and-r v w vw;
+        voters = and-r (v && w) x vwx;
+        epoch = eqb-true (b .epoch .0) 0 (and-r (v && w && x) y vwxy);
+        parent = eqb-true (b .parent .0) 0 (and-r (v && w && x && y) z h);
+      }
+
+  pub blank-of : Blank-tests → isBlank b ≡ true
+  unfolding isBlank
+  blank-of t =
+      let v = zeros (b .name) in
+      let w = zeros (b .payload) in
+      let x = noVoters (b .voters) in
+      let y = eqb (b .epoch .0) 0 in
+      let z = eqb (b .parent .0) 0 in
+      and-both (v && w && x && y) z
+      (and-both (v && w && x) y (and-both (v && w) x (and-both v w (t .name) (t .payload)) (t .voters)) (eq-eqb (b .epoch .0) 0 (t .epoch)))
+      (eq-eqb (b .parent .0) 0 (t .parent))
+
+  -- a row of zeros, of a row's length, is the blank one
+  pub blank-is : isBlank b ≡ true → length (b .name) ≡ nameBytes → length (b .payload) ≡ payloadBytes → length (b .voters) ≡ mostNodes → b ≡ blank
+  unfolding blank
+  blank-is h ln lp lv =
+      let t = blank-tests h in
+      let name : b .name ≡ replicate nameBytes 0 = zeros-true (b .name) (t .name) ∙ ap (λ (k : ℕ). replicate k 0) ln in
+      let payload : b .payload ≡ replicate payloadBytes 0 = zeros-true (b .payload) (t .payload) ∙ ap (λ (k : ℕ). replicate k 0) lp in
+      let voters : b .voters ≡ replicate mostNodes false = noVoters-true (b .voters) (t .voters) ∙ ap (λ (k : ℕ). replicate k false) lv in
+      let epoch : b .epoch .0 ≡ 0 = t .epoch in
+      let parent : b .parent .0 ≡ 0 = t .parent in
+      let fields : _≡_ {A = Block} (record { name = b .name; payload = b .payload; voters = b .voters; epoch = record { 0 = b .epoch .0 }; parent = record { 0 = b .parent .0 } }) blank = cc in
+      fields
+
+pub blank-blank : isBlank blank ≡ true
+unfolding isBlank blank zeros noVoters
+blank-blank = refl
+
+-- ---- a place of the table, and the whole of it
+
+module _ (n held : ℕ) (t blocks : List Block) (p : ℕ) where
+  pub place-held : 0 < p → p ≤ held → placeOk n held t blocks p ≡ blockOk n t p
+  unfolding placeOk
+  place-held l m =
+      pick-yes (ltb 0 p && leb p held) (blockOk n t p) (isBlank (getD blocks p blank)) (and-both (ltb 0 p) (leb p held) (lt-ltb 0 p l) (le-leb p held m))
+
+  pub place-unused : (p ≡ 0) ⊎ (held < p) → placeOk n held t blocks p ≡ isBlank (getD blocks p blank)
+  unfolding placeOk
+  place-unused h =
+      pick-no (ltb 0 p && leb p held) (blockOk n t p) (isBlank (getD blocks p blank))
+      (⊎-elim (λ z. ap (λ (t : Bool). t && leb p held) (le-ltb 0 p (omega arith)))
+      (λ m. ap (λ (t : Bool). ltb 0 p && t) (lt-leb p held m) ∙ and-false (ltb 0 p)) h)
+
+-- the places that hold a block, and the others
+pub held-or-unused : (held p : ℕ) → ((0 < p) × (p ≤ held)) ⊎ ((p ≡ 0) ⊎ (held < p))
+held-or-unused held p =
+    elim (decLe p held) [ yes m ↦ elim (decLt 0 p) [ yes l ↦ inl (l, m) | no l ↦ inr (inl (omega arith)) ] | no m ↦ inr (inr (omega arith)) ]
+
+-- ---- the state
+
+-- the root is the row at place 0, whatever the blocks
+root-row : (s : State) → at (rows s) 0 ≡ getD (s .blocks) 0 blank
+unfolding at rows
+root-row s = first (s .blocks)
+  where
+    first : (l : List Block) → getD (take (suc (s .count)) l) 0 (getD (take (suc (s .count)) l) 0 blank) ≡ getD l 0 blank
+    first [] = refl
+    first (b ∷ l) = refl
+
+module _ (s : State) where
+  record Tests : Type 0 where
+    numbers : nodes (s .n) (s .own .0) ≡ true
+    count : leb (s .count) capacity ≡ true
+    kept : leb (s .kept .0) (s .count) ≡ true
+    local : ltb 0 (s .local .0) ≡ true
+    clocks : clocksOk (s .n) (s .clocks) ≡ true
+    table : tableOk s ≡ true
+
+  tests : wellShaped s ≡ true → Tests
+  unfolding wellShaped
+  tests h =
+      let a = nodes (s .n) (s .own .0) in
+      let b = leb (s .count) capacity in
+      let c = leb (s .kept .0) (s .count) in
+      let d = ltb 0 (s .local .0) in
+      let e = clocksOk (s .n) (s .clocks) in
+      let f = tableOk s in
+      let abcde = and-l (a && b && c && d && e) f h in
+      let abcd = and-l (a && b && c && d) e abcde in
+      let abc = and-l (a && b && c) d abcd in
+      let ab = and-l (a && b) c abc in
+      record {
+        numbers = and-l a b ab;
+        count = and-r a b ab;
+        kept = and-r (a && b) c abc;
+        local = and-r (a && b && c) d abcd;
+        clocks = and-r (a && b && c && d) e abcde;
+        table = and-r (a && b && c && d && e) f h;
+      }
+
+  module _ (h : wellShaped s ≡ true) where
+    -- "n is 1 to 32, own number below n"
+    pub shaped-numbers : nodes (s .n) (s .own .0) ≡ true
+    shaped-numbers = tests h .numbers
+
+    pub shaped-nodes : (0 < s .n) × (s .n ≤ mostNodes) × (s .own .0 < s .n)
+    shaped-nodes = nodes-are (s .n) (s .own .0) (tests h .numbers)
+
+    -- "at most 64 blocks"
+    pub shaped-count : s .count ≤ capacity
+    shaped-count = leb-true (s .count) capacity (tests h .count)
+
+    -- "the kept final place no higher than the number of blocks"
+    pub shaped-kept : s .kept .0 ≤ s .count
+    shaped-kept = leb-true (s .kept .0) (s .count) (tests h .kept)
+
+    -- "local epoch at least 1"
+    pub shaped-local : 0 < s .local .0
+    shaped-local = ltb-true 0 (s .local .0) (tests h .local)
+
+    -- "the clocks of numbers at or above n all zero"
+    pub shaped-clocks : clocksOk (s .n) (s .clocks) ≡ true
+    shaped-clocks = tests h .clocks
+
+    pub shaped-clock : (i : ℕ) → s .n ≤ i → i < mostNodes → clockOf (s .clocks) i ≡ 0
+    shaped-clock = clocks-are (s .n) (s .clocks) (tests h .clocks)
+
+    shaped-place : (p : ℕ) → p ≤ capacity → placeOk (s .n) (s .count) (rows s) (s .blocks) p ≡ true
+    unfolding tableOk
+    shaped-place p l = allBelow-at (suc capacity) (placeOk (s .n) (s .count) (rows s) (s .blocks)) (tests h .table) p (omega arith)
+
+    -- each block held is in order
+    pub shaped-block : (p : ℕ) → 0 < p → p ≤ s .count → blockOk (s .n) (rows s) p ≡ true
+    shaped-block p l m = sym (place-held (s .n) (s .count) (rows s) (s .blocks) p l m) ∙ shaped-place p (omega (arith, shaped-count))
+
+    -- "unused table places" and the genesis's are all zero
+    pub shaped-blank : (p : ℕ) → (p ≡ 0) ⊎ (s .count < p) → p ≤ capacity → isBlank (getD (s .blocks) p blank) ≡ true
+    shaped-blank p u l = sym (place-unused (s .n) (s .count) (rows s) (s .blocks) p u) ∙ shaped-place p l
+
+    -- the genesis's row is all zero
+    pub shaped-root : isBlank (at (rows s) 0) ≡ true
+    shaped-root = ap isBlank (root-row s) ∙ shaped-blank 0 (inl refl) zero-le
+
+    -- no row's epoch, the genesis's included, is as high as the highest local epoch
+    pub shaped-epoch : (p : ℕ) → p ≤ s .count → epochAt (rows s) p < topEpoch
+    unfolding epochAt
+    shaped-epoch p l =
+        elim (decLt 0 p) [
+          | yes m ↦ block-epoch (s .n) (rows s) p (shaped-block p m l) .1
+          | no m ↦
+              let root : at (rows s) p .epoch .0 ≡ 0 = ap (λ (q : ℕ). at (rows s) q .epoch .0) (omega arith) ∙ blank-tests (at (rows s) 0) shaped-root .epoch in
+              omega arith
+        ]
+
+  -- the other way
+  pub shaped-of : (0 < s .n) × (s .n ≤ mostNodes) × (s .own .0 < s .n)
+      → s .count ≤ capacity
+      → s .kept .0 ≤ s .count
+      → 0 < s .local .0
+      → ((i : ℕ) → s .n ≤ i → i < mostNodes → clockOf (s .clocks) i ≡ 0)
+      → ((p : ℕ) → 0 < p → p ≤ s .count → blockOk (s .n) (rows s) p ≡ true)
+      → ((p : ℕ) → (p ≡ 0) ⊎ (s .count < p) → p ≤ capacity → isBlank (getD (s .blocks) p blank) ≡ true)
+      → wellShaped s ≡ true
+  unfolding wellShaped tableOk
+  shaped-of numbers count kept local clocks block unused =
+      let place = placeOk (s .n) (s .count) (rows s) (s .blocks) in
+      let a = nodes (s .n) (s .own .0) in
+      let b = leb (s .count) capacity in
+      let c = leb (s .kept .0) (s .count) in
+      let d = ltb 0 (s .local .0) in
+      let e = clocksOk (s .n) (s .clocks) in
+      let f = allBelow (suc capacity) place in
+      let at-place : (p : ℕ) → p < suc capacity → place p ≡ true =
+      λ p l. ⊎-elim (λ z. place-held (s .n) (s .count) (rows s) (s .blocks) p (z .0) (z .1) ∙ block p (z .0) (z .1))
+      (λ z. place-unused (s .n) (s .count) (rows s) (s .blocks) p z ∙ unused p z (omega arith)) (held-or-unused (s .count) p) in
+      and-both (a && b && c && d && e) f
+      (and-both (a && b && c && d) e
+      (and-both (a && b && c) d
+      (and-both (a && b) c
+      (and-both a b (nodes-of (s .n) (s .own .0) numbers) (le-leb (s .count) capacity count))
+      (le-leb (s .kept .0) (s .count) kept))
+      (lt-ltb 0 (s .local .0) local))
+      (clocks-of (s .n) (s .clocks) clocks))
+      (allBelow-all (suc capacity) place at-place)
+
+-- ---- the states that a gateway starts from
+
+-- "Fresh: local 1, all else 0, no blocks"
+pub fresh-shaped : (n own : ℕ) → nodes n own ≡ true → wellShaped (fresh n own) ≡ true
+unfolding fresh plain clockOf
+fresh-shaped n own h =
+    shaped-of (fresh n own) (nodes-are n own h) zero-le zero-le (omega arith)
+    (λ i l m. ap (λ (c : Epoch). c .0) (getD-replicate mostNodes i (record { 0 = 0 }) (record { 0 = 0 }) m))
+    (λ p l m. absurd (omega arith))
+    (λ p u l. ap isBlank (getD-replicate (suc capacity) p blank blank (omega arith)) ∙ blank-blank)
+
+-- "an all-zero state, which every later call refuses with 1"
+pub all-zero-unshaped : wellShaped allZero ≡ false
+unfolding wellShaped nodes allZero plain
+all-zero-unshaped = refl
