@@ -1,0 +1,3 @@
+-- What the rules' promises cite beside the meaning, `pala`.
+pub mod Columns
+pub mod Standing

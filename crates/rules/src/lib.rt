@@ -1,0 +1,22 @@
+// The rules of 01, "What a taken record does", as code: enough votes, freshest, the block that may be voted for, and where a state
+// stands before the five steps. Every state is answered, of whatever shape. The meaning is `pala`'s.
+
+use table::Epoch;
+use table::Place;
+
+mod chains;
+mod clocks;
+mod columns;
+pub mod quorum;
+mod scans;
+pub mod steps;
+
+// What the five steps need of a state: the freshest block's epoch, the greater of the local epoch and the agreed clock,
+// the candidate, and whether the candidate descends from the kept final block and the kept one from it.
+pub struct Standing {
+    pub fresh: Epoch,
+    pub clock: Epoch,
+    pub candidate: Place,
+    pub forward: bool,
+    pub back: bool,
+}
