@@ -1,15 +1,21 @@
 -- A recording in pieces: its stretches, and the lines of one piece after another. Assumes nothing.
-use Prim.Native.Nat.{ℕ, zero, suc, _+_, _-_, _*_, _%_, _≤_, _<_}
+use Prim.Native.Nat.{ℕ, zero, suc, _+_, _-_, _*_, _/_, _%_, _≤_, _<_, min}
 use mathlib.Core.List.{List, [], _∷_, _++_, append-assoc}
-use mathlib.Core.Path.{_≡_, refl, sym, ap, _∙_}
-use native.Mathlib.Nat.{add-zero, add-suc}
+use mathlib.Core.Bool.{true}
+use mathlib.Core.Path.{_≡_, refl, sym, ap, _∙_, subst}
+use native.Mathlib.Decide.{decLe}
+use native.Mathlib.Nat.{add-zero}
 use native.Mathlib.Omega.{arith}
-use lib.ListN.{length, take, drop, length-append, length-drop}
-use lib.Seq.{take-append-le, drop-append-le, take-all}
+use lib.ListN.{length, take, drop, length-append, length-drop, drop-of-length-le}
+use lib.Seq.{take-append-le, drop-append-le, drop-drop, take-all}
 use Rattle.table.specs.declared.State.{State}
+use Rattle.table.specs.Rows.{capacity}
 use Rattle.pala.specs.Record.{recordBytes}
 use Rattle.pala.specs.Run.{stretchesIn, stretches, played, lent}
-use Rattle.pala.specs.Step.{step}
+use Rattle.pala.specs.Shape.{wellShaped}
+use Rattle.pala.specs.Step.{Outcome, step, stepShaped, room}
+use Rattle.pala.proofs.Calls.{step-is}
+use Rattle.pala.proofs.Keeps.{step-shaped}
 use Rattle.pala.specs.Lines.{lineOf, lines}
 
 -- ---- stretches
@@ -55,6 +61,76 @@ stretches-append (suc k) xs ys h =
     ∙ ap (λ (l : List (List ℕ)). take recordBytes xs ∷ l)
     (stretches-append k (drop recordBytes xs) ys (omega (arith, length-drop recordBytes xs)))
     ∙ ap (λ (l : List (List ℕ)). l ++ stretches ys) (sym (stretches-more xs (omega arith)))
+
+-- there is one for each 96 bytes begun
+countIn : (k : ℕ) (bytes : List ℕ) → length bytes ≤ k → length (stretchesIn k bytes) ≡ (length bytes + 95) / recordBytes
+unfolding stretchesIn
+countIn zero [] h = refl
+countIn zero (b ∷ bytes) h = absurd (omega arith)
+countIn (suc k) [] h = refl
+countIn (suc k) (b ∷ bytes) h =
+    let left : length (drop recordBytes (b ∷ bytes)) ≡ suc (length bytes) - recordBytes = length-drop recordBytes (b ∷ bytes) in
+    omega (arith, countIn k (drop recordBytes (b ∷ bytes)) (omega arith))
+
+pub stretches-count : (bytes : List ℕ) → length (stretches bytes) ≡ (length bytes + 95) / recordBytes
+unfolding stretches
+stretches-count bytes = countIn (length bytes) bytes (omega arith)
+
+-- a stretch is 96 bytes, or what is left where that is less
+cut : (d : List ℕ) (size : ℕ) → size ≡ min (length d) recordBytes → (take recordBytes d ≡ take size d) × (drop recordBytes d ≡ drop size d)
+cut d size e =
+    elim (decLe recordBytes (length d)) [
+      | yes l ↦
+          let whole : size ≡ recordBytes = omega arith in
+          (ap (λ (n : ℕ). take n d) (sym whole), ap (λ (n : ℕ). drop n d) (sym whole))
+      | no l ↦ (
+        take-all recordBytes d (omega arith) ∙ sym (take-all size d (omega arith)),
+        drop-of-length-le d {i = recordBytes} (omega arith) ∙ sym (drop-of-length-le d {i = size} (omega arith)),
+      )
+    ]
+
+-- the stretch at an index, and then those of what is left after it
+pub next-stretch :
+    (input : List ℕ) (from size : ℕ) → from < length input → size ≡ min (length input - from) recordBytes
+    → stretches (drop from input) ≡ take size (drop from input) ∷ stretches (drop (from + size) input)
+next-stretch input from size l e =
+    let left : length (drop from input) ≡ length input - from = length-drop from input in
+    let same : size ≡ min (length (drop from input)) recordBytes = omega arith in
+    let parts = cut (drop from input) size same in
+    stretches-more (drop from input) (omega arith)
+    ∙ ap (λ (x : List ℕ). x ∷ stretches (drop recordBytes (drop from input))) (parts .0)
+    ∙ ap (λ (x : List ℕ). take size (drop from input) ∷ stretches x) (parts .1 ∙ drop-drop size from input)
+
+-- ---- one record
+
+-- what a step over a well-shaped state hands back is what a step of the meaning does
+module _ (s : State) (r : List ℕ) (shaped : wellShaped s ≡ true) (o : Outcome) (told : o ≡ stepShaped room s r lent) where
+  pub told-step : o ≡ step s r lent
+  told-step = told ∙ sym (step-is s r lent shaped)
+
+  pub told-answer : o .answer ≡ step s r lent .answer
+  told-answer = ap (λ (x : Outcome). x .answer) told-step
+
+  pub told-state : o .state ≡ step s r lent .state
+  told-state = ap (λ (x : Outcome). x .state) told-step
+
+  pub told-shaped : length (s .blocks) ≡ suc capacity → wellShaped (o .state) ≡ true
+  told-shaped held = subst (λ (x : Outcome). wellShaped (x .state) ≡ true) (sym told) (step-shaped s r lent held shaped)
+
+-- playing on from after a record is playing on from before it
+pub played-next :
+    (records : List ℕ) (from : ℕ) (t u : State) → from + recordBytes ≤ length records → u ≡ step t (take recordBytes (drop from records)) lent .state
+    → played u (stretches (drop (from + recordBytes) records)) ≡ played t (stretches (drop from records))
+unfolding played
+played-next records from t u l e =
+    ap (λ (x : State). played x (stretches (drop (from + recordBytes) records))) e
+    ∙ ap (λ (x : List (List ℕ)). played t x) (sym (next-stretch records from recordBytes (omega arith) (omega arith)))
+
+-- past the end nothing is left to play
+pub played-end : (records : List ℕ) (from : ℕ) (t : State) → length records ≤ from → t ≡ played t (stretches (drop from records))
+unfolding played
+played-end records from t l =
+    ap (λ (x : List (List ℕ)). played t x) (sym (ap (λ (x : List ℕ). stretches x) (drop-of-length-le records {i = from} l) ∙ stretches-none))
 
 -- ---- one piece after another
 

@@ -1,0 +1,4 @@
+pub mod Laws
+pub mod Records
+pub mod Going
+pub mod Answered

@@ -1,0 +1,3 @@
+-- What the promises of this crate cite besides `pala`.
+pub mod Text
+pub mod Play

@@ -1,0 +1,23 @@
+-- Text in a lent buffer.
+use mathlib.Core.Path.{_≡_}
+use Prim.Native.Nat.{ℕ, _+_, _≤_}
+use mathlib.Core.List.{List, _++_}
+use lib.ListN.{length, take, drop}
+use Rattle.pala.specs.Lines.{spaced}
+
+-- the buffer with some bytes written from an index on, the rest of it unchanged
+unfoldable pub written : List ℕ → ℕ → List ℕ → List ℕ
+written text from bytes = take from text ++ bytes ++ drop (from + length bytes) text
+
+-- some bytes were put into a buffer from an index on: the index past them, and the buffer
+pub record Put (text : List ℕ) (from : ℕ) (bytes : List ℕ) (past : ℕ) (after : List ℕ) : Type 0 where
+  pub ends : past ≡ from + length bytes
+  pub holds : after ≡ written text from bytes
+
+-- a line of numbers fits into a buffer from an index on
+pub record Room (text : List ℕ) (from : ℕ) (numbers : List ℕ) : Type 0 where
+  pub fits : from + length (spaced numbers) ≤ length text
+
+-- the longest line: 20 digits of a record number, 2 of an answer, 10 of each epoch, 2 of a count of names, 5 bytes between and after them
+abbrev pub lineMost : ℕ
+lineMost = 49

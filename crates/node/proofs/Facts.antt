@@ -1,0 +1,77 @@
+-- What the code's tests tell of the rows' tests, where the code has a number from a call: `x` is the code's, `k` the definition's.
+-- Assumes nothing.
+use Prim.Native.Nat.{ℕ, suc, _≤_, _<_}
+use mathlib.Core.Bool.{Bool, true, false, not}
+use mathlib.Core.List.{List}
+use mathlib.Core.Path.{_≡_, refl, sym, ap, _∙_}
+use native.Mathlib.Omega.{arith}
+use borrow.Author.Tests.{lt-ltb, le-ltb, le-leb, lt-leb, eq-eqb, ne-eqb}
+use lib.Dec.{eqb, ltb, leb}
+use lib.ListN.{length, List·getD-eq-default}
+use Rattle.table.specs.declared.Block.{Block}
+use Rattle.table.specs.declared.Epoch.{Epoch}
+use Rattle.table.specs.declared.Place.{Place}
+use Rattle.table.specs.declared.State.{State}
+use Rattle.table.specs.Rows.{capacity, rows, size, at, hasVoter}
+use Rattle.table.proofs.Laws.{size-rows}
+use Rattle.pala.specs.Counts.{clockOf}
+use Rattle.pala.specs.Rules.{epochAt}
+use Rattle.pala.specs.Shape.{wellShaped}
+use Rattle.pala.proofs.Shapes.{shaped-count}
+
+pub le-yes : {x k n : ℕ} → x ≡ k → x ≤ n → leb k n ≡ true
+le-yes {k = k} {n = n} e h = le-leb k n (omega arith)
+
+pub le-no : {x k n : ℕ} → x ≡ k → n < x → leb k n ≡ false
+le-no {k = k} {n = n} e h = lt-leb k n (omega arith)
+
+pub least-yes : {x k n : ℕ} → x ≡ k → n ≤ x → leb n k ≡ true
+least-yes {k = k} {n = n} e h = le-leb n k (omega arith)
+
+pub least-no : {x k n : ℕ} → x ≡ k → x < n → leb n k ≡ false
+least-no {k = k} {n = n} e h = lt-leb n k (omega arith)
+
+pub past-yes : {x k n : ℕ} → x ≡ k → n < x → ltb n k ≡ true
+past-yes {k = k} {n = n} e h = lt-ltb n k (omega arith)
+
+pub past-no : {x k n : ℕ} → x ≡ k → x ≤ n → ltb n k ≡ false
+past-no {k = k} {n = n} e h = le-ltb n k (omega arith)
+
+pub is-yes : {x k n : ℕ} → x ≡ k → x ≡ n → eqb k n ≡ true
+is-yes {k = k} {n = n} e h = eq-eqb k n (sym e ∙ h)
+
+pub is-no : {x k n : ℕ} → x ≡ k → (x ≡ n → ⊥) → eqb k n ≡ false
+is-no {k = k} {n = n} e h = ne-eqb k n (λ q. h (e ∙ q))
+
+-- a negated test
+pub not-is-yes : {a b : ℕ} → (a ≡ b → ⊥) → not (eqb a b) ≡ true
+not-is-yes {a} {b} h = ap not (ne-eqb a b h)
+
+pub not-is-no : {a b : ℕ} → a ≡ b → not (eqb a b) ≡ false
+not-is-no {a} {b} h = ap not (eq-eqb a b h)
+
+-- the place that a search found
+pub number : {p : Place} {k : ℕ} → p ≡ record { 0 = k } → p .0 ≡ k
+number e = ap (λ (q : Place). q .0) e
+
+-- the clock kept from a node
+pub kept-clock : {x : Epoch} {k : ℕ} → x ≡ record { 0 = k } → x .0 ≡ k
+kept-clock e = ap (λ (y : Epoch). y .0) e
+
+-- no clock is kept from a number past the clocks
+pub clock-past : (clocks : List Epoch) (i n : ℕ) → length clocks ≡ n → n ≤ i → clockOf clocks i ≡ 0
+unfolding clockOf
+clock-past clocks i n e h = ap (λ (x : Epoch). x .0) (List·getD-eq-default clocks (record { 0 = 0 }) (omega arith))
+
+-- the epoch and the voters of the block that stands there
+pub epoch-there : (t : List Block) {b : Block} {p : Place} {k : ℕ} → b ≡ at t (p .0) → p ≡ record { 0 = k } → b .epoch .0 ≡ epochAt t k
+unfolding epochAt
+epoch-there t a e = ap (λ (x : Block). x .epoch .0) a ∙ ap (λ (q : Place). at t (q .0) .epoch .0) e
+
+pub voter-there : (t : List Block) (i : ℕ) {v : Bool} {b : Block} {p : Place} {k : ℕ} → v ≡ hasVoter b i → b ≡ at t (p .0) → p ≡ record { 0 = k } → hasVoter (at t k) i ≡ v
+voter-there t i h a e =
+    sym (h ∙ ap (λ (x : Block). hasVoter x i) a ∙ ap (λ (q : Place). hasVoter (at t (q .0)) i) e)
+
+-- the root and each block held
+pub sized : (s : State) → wellShaped s ≡ true → length (s .blocks) ≡ suc capacity → size (rows s) ≡ suc (s .count)
+sized s h l = omega (arith, size-rows s, shaped-count s h)

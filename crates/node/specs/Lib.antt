@@ -1,0 +1,2 @@
+-- What deciding a record hands to applying it.
+pub mod Moves
