@@ -1,17 +1,22 @@
 -- Text written piece by piece, and the digits of a number. Assumes nothing.
 use Prim.Native.Nat.{ℕ, zero, suc, _+_, _/_, _%_, _^_, _≤_, _<_}
 use mathlib.Core.Bool.{Bool, true, false}
-use mathlib.Core.List.{List, [], _∷_, _++_, append-assoc}
+use mathlib.Core.List.{List, [], _∷_, _++_, append-assoc, append-nil}
 use mathlib.Core.Path.{_≡_, refl, sym, ap, _∙_, subst}
 use native.Mathlib.Decide.{decLt}
+use native.Mathlib.Nat.{add-zero, zero-add}
 use native.Mathlib.Numerals.{add-one}
 use native.Mathlib.Omega.{arith}
 use borrow.Author.Tests.{lt-ltb, le-ltb}
 use lib.Dec.{ltb}
-use lib.ListN.{length, take, drop, set, length-append, length-take, length-drop}
-use lib.Seq.{set-split, append-snoc, take-append-le, drop-append-le, drop-append-add, take-at, drop-at, drop-drop, length-take-le}
-use Rattle.pala.specs.Lines.{digitsIn, digits, spaced, space, newLine}
-use Rattle.lines.specs.Text.{written, Put, Room, lineMost}
+use lib.ListN.{length, getD, take, drop, set, length-append, length-take, length-drop, take-append-drop}
+use lib.Seq.{set-split, append-snoc, take-at, drop-at, drop-drop, length-take-le, take-suc}
+use Rattle.table.specs.declared.Answer.{Answer}
+use Rattle.table.specs.Scan.{pick}
+use Rattle.pala.specs.Answers.{number}
+use Rattle.table.proofs.Laws.{pick-yes, pick-no}
+use Rattle.pala.specs.Lines.{digitsIn, digits, spaced, space, newLine, endLine, setupLine}
+use Rattle.lines.specs.Text.{written, Put, Room, lineMost, endMost, Lined, lined}
 
 -- ---- written
 
@@ -96,6 +101,16 @@ length-more k h = ap length (digits-more k h) ∙ length-append (digits (k / 10)
 
 -- ---- put
 
+-- nothing put
+pub put-none : (text : List ℕ) (from : ℕ) → from ≤ length text → Put text from [] from text
+unfolding written
+put-none text from h =
+    let front : take from text ++ [] ++ drop (from + 0) text ≡ text =
+    ap (λ (l : List ℕ). l ++ drop (from + 0) text) (append-nil (take from text))
+    ∙ ap (λ (n : ℕ). take from text ++ drop n text) (add-zero from)
+    ∙ take-append-drop from text in
+    record { ends = sym (add-zero from); holds = sym front }
+
 -- a piece put, and then another right after it
 pub put-then :
     {text x y : List ℕ} {from mid past : ℕ} {a b : List ℕ} → from + length a + length b ≤ length text
@@ -117,6 +132,10 @@ pub put-length :
     {text after : List ℕ} {from past : ℕ} {a : List ℕ} → from + length a ≤ length text → Put text from a past after
     → length after ≡ length text
 put-length {text} {after} {from} {past} {a} h p = ap length (p .holds) ∙ length-written text from a h
+
+-- the same end, otherwise worded
+pub put-till : {text after : List ℕ} {from past end : ℕ} {a : List ℕ} → past ≡ end → Put text from a past after → Put text from a end after
+put-till e p = record { ends = sym e ∙ p .ends; holds = p .holds }
 
 -- the same bytes, otherwise worded
 pub put-as : {text after : List ℕ} {from past : ℕ} {a b : List ℕ} → a ≡ b → Put text from a past after → Put text from b past after
@@ -174,6 +193,10 @@ digits-most (suc d) k h =
       | no l ↦ omega (arith, length-more k (omega arith), digits-most d (k / 10) (omega arith))
     ]
 
+-- a number of 64 bits and the byte after it
+pub number-most : (k e : ℕ) → k < 2 ^ 64 → length (digits k ++ (e ∷ [])) ≤ 21
+number-most k e h = omega (arith, length-append (digits k) (e ∷ []), digits-most 19 k (omega arith))
+
 -- a line of a record: a number of 64 bits, one of two digits, two of 32 bits and one of two digits
 pub line-most :
     (k answer local bar names : ℕ) → k < 2 ^ 64 → answer < 100 → local < 2 ^ 32 → bar < 2 ^ 32 → names < 100
@@ -192,3 +215,44 @@ line-most k answer local bar names hk ha hl hb hn =
       digits-most 9 bar (omega arith),
       digits-most 1 names (omega arith),
     )
+
+-- ---- bytes one after the other
+
+-- one more of some bytes put
+pub put-more :
+    {text x y : List ℕ} {from mid past : ℕ} (bytes : List ℕ) (k v : ℕ) → k < length bytes → from + length bytes ≤ length text
+    → Put text from (take k bytes) mid x → v ≡ getD bytes k 0 → Put x mid (v ∷ []) past y → Put text from (take (k + 1) bytes) past y
+put-more {text} {x} {y} {from} bytes k v l h p e q =
+    let some : length (take k bytes) ≡ k = length-take-le k bytes (omega arith) in
+    put-as (ap (λ (n : ℕ). take k bytes ++ (n ∷ [])) e ∙ sym (rw (add-one k) (take-suc bytes k 0 l))) (put-then (omega arith) p q)
+
+-- a line at the start of a buffer that has room for the longest, and one that has not
+pub lined-none : (line text : List ℕ) → length text < endMost → _≡_ {A = Lined} (record { length = 0; text = text }) (lined line text)
+unfolding lined
+lined-none line text h =
+    let test : ltb (length text) endMost ≡ true = lt-ltb (length text) endMost h in
+    let first : 0 ≡ pick (ltb (length text) endMost) 0 (length line) = sym (pick-yes (ltb (length text) endMost) 0 (length line) test) in
+    let rest : text ≡ pick (ltb (length text) endMost) text (written text 0 line) =
+    sym (pick-yes (ltb (length text) endMost) text (written text 0 line) test) in
+    λ i. record { length = first i; text = rest i }
+
+pub lined-put :
+    {text after : List ℕ} {past : ℕ} (line : List ℕ) → endMost ≤ length text → Put text 0 line past after
+    → _≡_ {A = Lined} (record { length = past; text = after }) (lined line text)
+unfolding lined
+lined-put {text} {after} {past} line h p =
+    let test : ltb (length text) endMost ≡ false = le-ltb (length text) endMost h in
+    let first : past ≡ pick (ltb (length text) endMost) 0 (length line) =
+    p .ends ∙ zero-add (length line) ∙ sym (pick-no (ltb (length text) endMost) 0 (length line) test) in
+    let rest : after ≡ pick (ltb (length text) endMost) text (written text 0 line) =
+    p .holds ∙ sym (pick-no (ltb (length text) endMost) text (written text 0 line) test) in
+    λ i. record { length = first i; text = rest i }
+
+-- "end" or "setup", a space and a number are such a line
+pub end-line : (k : ℕ) → (101 ∷ 110 ∷ 100 ∷ 32 ∷ []) ++ (digits k ++ (newLine ∷ [])) ≡ endLine k
+unfolding endLine spaced
+end-line k = refl
+
+pub setup-line : (k : ℕ) → k ≡ number Answer.Setup → (115 ∷ 101 ∷ 116 ∷ 117 ∷ 112 ∷ 32 ∷ []) ++ (digits k ++ (newLine ∷ [])) ≡ setupLine
+unfolding setupLine spaced
+setup-line k e = ap (λ (n : ℕ). (115 ∷ 101 ∷ 116 ∷ 117 ∷ 112 ∷ 32 ∷ []) ++ (digits n ++ (newLine ∷ []))) e

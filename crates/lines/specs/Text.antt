@@ -2,7 +2,9 @@
 use mathlib.Core.Path.{_≡_}
 use Prim.Native.Nat.{ℕ, _+_, _≤_}
 use mathlib.Core.List.{List, _++_}
+use lib.Dec.{ltb}
 use lib.ListN.{length, take, drop}
+use Rattle.table.specs.Scan.{pick}
 use Rattle.pala.specs.Lines.{spaced}
 
 -- the buffer with some bytes written from an index on, the rest of it unchanged
@@ -21,3 +23,20 @@ pub record Room (text : List ℕ) (from : ℕ) (numbers : List ℕ) : Type 0 whe
 -- the longest line: 20 digits of a record number, 2 of an answer, 10 of each epoch, 2 of a count of names, 5 bytes between and after them
 abbrev pub lineMost : ℕ
 lineMost = 49
+
+-- the longest first or last line: 6 letters, 20 digits and a new line
+abbrev pub endMost : ℕ
+endMost = 27
+
+-- a line at the start of a buffer, and its length; nothing where the longest would not fit
+pub record Lined : Type 0 where
+  pub length : ℕ
+  pub text : List ℕ
+
+unfoldable pub lined : List ℕ → List ℕ → Lined
+unfolding pick written
+lined line text =
+    record {
+      length = pick (ltb (length text) endMost) 0 (length line);
+      text = pick (ltb (length text) endMost) text (written text 0 line);
+    }

@@ -24,6 +24,19 @@ pub fn put_byte(text: &mut [u8], at: usize, b: u8) -> usize
     at + 1
 }
 
+// Bytes from an index on.
+pub fn put_bytes(text: &mut [u8], at: usize, bytes: &[u8]) -> usize
+    requires { ⌜ at + length (now bytes) ≤ length (now text) ⌝ }
+    ensures { λ r. ⌜ Put (now (text .entry)) at (now (bytes .entry)) r (now (text .exit)) ⌝ }
+{
+    let mut k: usize = 0;
+    while k < bytes.len() {
+        put_byte(text, at + k, bytes[k]);
+        k += 1;
+    }
+    at + k
+}
+
 // The digit of a number below ten.
 fn digit(k: u64) -> u8
     requires { ⌜ k < 10 ⌝ }
@@ -45,7 +58,7 @@ pub fn put_digits(text: &mut [u8], at: usize, k: u64) -> usize
 }
 
 // A number and the byte that ends it.
-fn put_number(text: &mut [u8], at: usize, k: u64, end: u8) -> usize
+pub fn put_number(text: &mut [u8], at: usize, k: u64, end: u8) -> usize
     requires { ⌜ at + length (digits k) < length (now text) ⌝ }
     ensures { λ r. ⌜ Put (now (text .entry)) at (digits k ++ (end ∷ [])) r (now (text .exit)) ⌝ }
 {

@@ -23,7 +23,8 @@ use Rattle.pala.specs.Step.{Outcome, outcome, room, stepShaped, step, st
 use Rattle.pala.specs.Steps.{settled}
 use Rattle.pala.proofs.Shapes.{nodes-are, blank-blank, shaped-of}
 use Rattle.pala.proofs.Sized.{Sized, plain-sized}
-use Rattle.pala.proofs.Keeps.{Proper, step-keeps}
+use Rattle.pala.proofs.Moves.{Stepped}
+use Rattle.pala.proofs.Keeps.{Proper, step-did, step-keeps}
 
 -- ---- a call with and without the test of the shape
 
@@ -60,11 +61,14 @@ module _ (s : State) (r out other : List ℕ) (e : length out ≡ recordBytes) (
   unfolding step outcome
   step-any-out = (ap (λ (a : Answer). pick (taken a) (settled (effect s r)) s) same-answer, same-answer)
 
--- so a loop over well-shaped states, with any buffer of 96 bytes, does what `played` says
-pub step-lent : (s : State) (r out : List ℕ) → wellShaped s ≡ true → length out ≡ recordBytes → stepShaped room s r out .state ≡ step s r lent .state
+-- so any buffer of 96 bytes does what the lent one does
+pub any-lent : (s : State) (r out : List ℕ) → length out ≡ recordBytes → step s r out .state ≡ step s r lent .state
 unfolding lent
-step-lent s r out h e =
-    ap (λ (o : Outcome). o .state) (sym (step-is s r out h)) ∙ step-any-out s r out lent e (length-replicate {A = ℕ} recordBytes 0) .0
+any-lent s r out e = step-any-out s r out lent e (length-replicate {A = ℕ} recordBytes 0) .0
+
+-- .. and a loop over well-shaped states does what `played` says
+pub step-lent : (s : State) (r out : List ℕ) → wellShaped s ≡ true → length out ≡ recordBytes → stepShaped room s r out .state ≡ step s r lent .state
+step-lent s r out h e = ap (λ (o : Outcome). o .state) (sym (step-is s r out h)) ∙ any-lent s r out e
 
 -- ---- the all-zero state
 
@@ -115,7 +119,11 @@ start-shaped n own h = ap wellShaped (pick-yes (nodes n own) (fresh n own) allZe
 
 -- ---- a run
 
--- a call keeps what it needs
+-- a call refuses and leaves the state as it was, or takes the record
+pub call-did : (s : State) (r out : List ℕ) → Proper s → Stepped room s r out (step s r out)
+call-did s r out k = subst (Stepped room s r out) (sym (step-is s r out (k .shaped))) (step-did s (k .sized .blocks) (k .shaped) r out)
+
+-- .. and keeps what a call needs
 pub call-keeps : (s : State) (r out : List ℕ) → Proper s → Proper (step s r out .state)
 call-keeps s r out k = subst (λ (o : Outcome). Proper (o .state)) (sym (step-is s r out (k .shaped))) (step-keeps s r out k)
 

@@ -1,15 +1,10 @@
--- Demand 3: tables and what a taken record does to them, runs, the theorem and its companions.
--- tables: places that fall, rows that grow, firmness along a line, the freshest block
-pub mod Tests
-pub mod Falls
-pub mod Tables
+-- Demand 3: tables, reached states, runs, the theorem and its companions. It stands on the laws of the shape and of a call above.
+-- tables: lines of ancestors, firmness, the freshest block and what may be kept, blocks in order
 pub mod Quorums
 pub mod Ancestors
 pub mod Freshest
 pub mod Sound
--- states: what a taken record did, and what every reached state keeps to
-pub mod States
-pub mod Moves
+-- states: what every reached one keeps to beyond its shape, what a taken record can have changed
 pub mod Healthy
 pub mod Changes
 -- chains over any names, a node's vote log, runs, the theorem

@@ -2,7 +2,6 @@
 use mathlib.Core.Path.{refl}
 use mathlib.Core.List.{List, [], _∷_, _++_}
 use Prim.Native.Nat.{ℕ}
-use Rattle.pala.specs.Record.{message}
 use Rattle.pala.specs.Cases.{Case, Holds, play, shown, musts, began, session, hear, hear′, vote, clock, cast, genesisName, A, B, C, E, F, A′, D′, E′}
 use Rattle.pala.specs.Cases.Look.{theAnswer, theLocal, theBar, theFinals, theSent, theTorn}
 

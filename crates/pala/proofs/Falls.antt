@@ -91,18 +91,6 @@ climbIn up P base step (suc k) p h =
 pub climb : (up : ℕ → ℕ) (P : ℕ → Type 0) → P 0 → ((p : ℕ) → 0 < p → P (lower up p) → P p) → (p : ℕ) → P p
 climb up P base step p = climbIn up P base step p p (le-refl p)
 
--- a fall depends only on what `up` gives at its places, none of which is above the first
-pub fall-same : (up low : ℕ → ℕ) (p : ℕ) → ((a : ℕ) → a ≤ p → up a ≡ low a) → fall up p ≡ fall low p
-fall-same up low =
-    climb up (λ (p : ℕ). ((a : ℕ) → a ≤ p → up a ≡ low a) → fall up p ≡ fall low p)
-    (λ agree. fall-zero up ∙ sym (fall-zero low))
-    (λ p h ih agree.
-    let l = lower-below up p h in
-    fall-up up p h
-    ∙ ap (λ (q : List ℕ). p ∷ q) (ih (λ a m. agree a (omega arith)))
-    ∙ ap (λ (a : ℕ). p ∷ fall low a) (lower-same up low p (agree p (le-refl p)))
-    ∙ sym (fall-up low p h))
-
 -- ---- what is asked along a fall
 
 pub every-zero : (ok : ℕ → Bool) (up : ℕ → ℕ) → every ok (fall up 0) ≡ (ok 0 && true)
@@ -129,15 +117,3 @@ first-zero ok up =
 pub first-up : (ok : ℕ → Bool) (up : ℕ → ℕ) (p : ℕ) → 0 < p → first ok (fall up p) ≡ pick (ok p) p (first ok (fall up (lower up p)))
 unfolding first
 first-up ok up p h = ap (first ok) (fall-up up p h)
-
--- tests that agree at no place above the first give the same answer
-pub every-same : (ok also : ℕ → Bool) (up : ℕ → ℕ) (p : ℕ) → ((a : ℕ) → a ≤ p → ok a ≡ also a) → every ok (fall up p) ≡ every also (fall up p)
-every-same ok also up =
-    climb up (λ (p : ℕ). ((a : ℕ) → a ≤ p → ok a ≡ also a) → every ok (fall up p) ≡ every also (fall up p))
-    (λ agree. every-zero ok up ∙ ap (λ (b : Bool). b && true) (agree 0 zero-le) ∙ sym (every-zero also up))
-    (λ p h ih agree.
-    let l = lower-below up p h in
-    every-up ok up p h
-    ∙ ap (λ (b : Bool). b && every ok (fall up (lower up p))) (agree p (le-refl p))
-    ∙ ap (λ (b : Bool). also p && b) (ih (λ a m. agree a (omega arith)))
-    ∙ sym (every-up also up p h))

@@ -12,8 +12,10 @@ use Rattle.table.specs.declared.Block.{Block}
 use Rattle.table.specs.declared.State.{State}
 use Rattle.table.specs.Rows.{rows, size, at, hasVoter, withVoter}
 use Rattle.table.proofs.Laws.{at-in}
-use Rattle.pala.specs.Effects.{laid, withBlock, withVote}
-use Rattle.pala.specs.Rules.{epochAt}
+use Rattle.pala.specs.Effects.{laid, withBlock, withVote, withClock}
+use Rattle.pala.specs.Rules.{epochAt, parentOf}
+use Rattle.pala.specs.Steps.{settled}
+use Rattle.pala.proofs.Falls.{lower-same}
 
 -- ---- a row laid at a place that the rows have
 
@@ -50,7 +52,16 @@ rows-vote s p i voted h k =
     ap (take (suc (s .count))) (laid-set (s .blocks) p (withVoter (at (rows s) p) i) (omega arith))
     ∙ take-set-lt (suc (s .count)) (s .blocks) p (withVoter (at (rows s) p) i) (omega arith)
 
--- either leaves as many rows as there are
+-- a clock, and the five steps, leave the table alone
+pub rows-clock : (s : State) (i c : ℕ) → rows (withClock s i c) ≡ rows s
+unfolding rows withClock
+rows-clock s i c = refl
+
+pub rows-settled : (s : State) → rows (settled s) ≡ rows s
+unfolding rows settled
+rows-settled s = refl
+
+-- a block and a vote leave as many rows as there are
 pub length-block : (s : State) (b : Block) (proposed : ℕ) → suc (s .count) < length (s .blocks) → length (withBlock s b proposed .blocks) ≡ length (s .blocks)
 unfolding withBlock
 length-block s b proposed h = length-laid (s .blocks) (suc (s .count)) b h
@@ -94,6 +105,33 @@ pub grown-epoch : {t u : List Block} → Grown t u → (p : ℕ) → p < size t 
 unfolding epochAt
 grown-epoch g p h = g .epoch p h
 
+pub grown-parent : {t u : List Block} → Grown t u → (p : ℕ) → p < size t → parentOf u p ≡ parentOf t p
+unfolding parentOf
+grown-parent {t} {u} g p h = lower-same (λ a. at u a .parent .0) (λ a. at t a .parent .0) p (g .parent p h)
+
+pub grown-same : (t : List Block) → Grown t t
+grown-same t =
+    record {
+      longer = omega arith;
+      name = λ p h. refl;
+      epoch = λ p h. refl;
+      parent = λ p h. refl;
+      voters = λ p i h v. v;
+    }
+
+pub grown-then : {t u v : List Block} → Grown t u → Grown u v → Grown t v
+grown-then {t} {u} {v} f g =
+    record {
+      longer = omega (arith, f .longer, g .longer);
+      name = λ p h. g .name p (in-u p h) ∙ f .name p h;
+      epoch = λ p h. g .epoch p (in-u p h) ∙ f .epoch p h;
+      parent = λ p h. g .parent p (in-u p h) ∙ f .parent p h;
+      voters = λ p i h w. g .voters p i (in-u p h) (f .voters p i h w);
+    }
+  where
+    in-u : (p : ℕ) → p < size t → p < size u
+    in-u p h = omega (arith, f .longer)
+
 pub grown-append : (t : List Block) (b : Block) → Grown t (t ++ (b ∷ []))
 grown-append t b =
     record {
@@ -104,7 +142,11 @@ grown-append t b =
       voters = λ p i h w. ap (λ (x : Block). hasVoter x i) (at-append t b p h) ∙ w;
     }
 
--- a voter set is there, and the others stay as they were
+-- one voter more: it is there, those that were there still are, and of the others nothing changed
+pub voter-in : (b : Block) (i : ℕ) → i < length (b .voters) → hasVoter (withVoter b i) i ≡ true
+unfolding withVoter hasVoter
+voter-in b i h = getD-set-same (b .voters) i true false h
+
 pub voter-set : (l : List Bool) (i j : ℕ) → getD l j false ≡ true → getD (set l i true) j false ≡ true
 voter-set [] i j w = w
 voter-set (x ∷ l) zero zero w = refl
@@ -117,7 +159,8 @@ unfolding withVoter hasVoter
 voter-was b i j d = getD-set-other (b .voters) i j true false d
 
 -- a row after a vote: the voted one with a voter more, or the row as it was
-pub at-vote : (P : Block → Type 0) (t : List Block) (p i q : ℕ) → p < size t → (q ≡ p → P (withVoter (at t p) i)) → (q ≢ p → P (at t q)) → q < size t → P (at (set t p (withVoter (at t p) i)) q)
+pub at-vote : (P : Block → Type 0) (t : List Block) (p i q : ℕ) → p < size t
+    → (q ≡ p → P (withVoter (at t p) i)) → (q ≢ p → P (at t q)) → q < size t → P (at (set t p (withVoter (at t p) i)) q)
 at-vote P t p i q l same other h =
     elim (ℕ-discrete q p) [
       | yes d ↦
@@ -126,7 +169,8 @@ at-vote P t p i q l same other h =
     ]
 
 -- a part of the rows that a voter more leaves alone
-pub part-vote : {A : Type 0} (f : Block → A) (t : List Block) (p i : ℕ) → p < size t → f (withVoter (at t p) i) ≡ f (at t p) → (q : ℕ) → q < size t → f (at (set t p (withVoter (at t p) i)) q) ≡ f (at t q)
+pub part-vote : {A : Type 0} (f : Block → A) (t : List Block) (p i : ℕ) → p < size t → f (withVoter (at t p) i) ≡ f (at t p)
+    → (q : ℕ) → q < size t → f (at (set t p (withVoter (at t p) i)) q) ≡ f (at t q)
 part-vote f t p i l e q h =
     at-vote (λ (x : Block). f x ≡ f (at t q)) t p i q l (λ d. e ∙ ap (λ (a : ℕ). f (at t a)) (sym d)) (λ d. refl) h
 

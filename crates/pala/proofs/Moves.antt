@@ -21,9 +21,8 @@ use Rattle.pala.specs.Record.{recordBytes, senderOf, epochOf, nameOf, pa
 use Rattle.pala.specs.Rules.{epochAt, freshest, votable, ballot}
 use Rattle.pala.specs.Effects.{newBlock, withBlock, withVote, withClock, proposalEffect, voteEffect, clockEffect, proposeEffect, picked, castEffect, minuteEffect, effect}
 use Rattle.pala.specs.Steps.{settled}
-use Rattle.pala.specs.Step.{stepShaped, outcome}
-use Rattle.pala.proofs.Tests.{nor-l, nor-r, nand, or-l, or-r, either}
-use Rattle.pala.proofs.Shapes.{and-l}
+use Rattle.pala.specs.Step.{Outcome, stepShaped, outcome}
+use Rattle.pala.proofs.Tests.{and-l, nor-l, nor-r, nand, or-l, or-r, either}
 use Rattle.pala.proofs.Sized.{RowSized}
 use Rattle.pala.proofs.Places.{find-misses, freshest-in}
 
@@ -100,9 +99,14 @@ pub record NewBlock (t : List Block) (b : Block) : Type 0 where
 
 -- what a taken record did to a state
 pub data Did (space : ℕ → Bool) (s : State) (r : List ℕ) (u : State) : Type 0 where
-  added : (b : Block) (proposed : ℕ) → (is proposalHeard r ≡ true) ⊎ (is proposeNow r ≡ true) → NewBlock (rows s) b → space (s .count) ≡ true → u ≡ withBlock s b proposed → Did space s r u
-  counted : is voteHeard r ≡ true → 0 < find (rows s) (nameOf r) → find (rows s) (nameOf r) < size (rows s) → senderOf r < s .n → senderOf r ≢ s .own .0 → u ≡ withVote s (find (rows s) (nameOf r)) (senderOf r) (s .voted .0) → Did space s r u
-  cast : is castNow r ≡ true → picked s < size (rows s) → votable (s .n) (rows s) (s .local .0) (s .bar .0) (s .voted .0) (picked s) ≡ true → u ≡ withVote s (picked s) (s .own .0) (s .local .0) → Did space s r u
+  added : (b : Block) (proposed : ℕ) → (is proposalHeard r ≡ true) ⊎ (is proposeNow r ≡ true)
+      → NewBlock (rows s) b → space (s .count) ≡ true → u ≡ withBlock s b proposed → Did space s r u
+  counted : is voteHeard r ≡ true → 0 < find (rows s) (nameOf r) → find (rows s) (nameOf r) < size (rows s)
+      → senderOf r < s .n → senderOf r ≢ s .own .0
+      → u ≡ withVote s (find (rows s) (nameOf r)) (senderOf r) (s .voted .0) → Did space s r u
+  cast : is castNow r ≡ true → picked s < size (rows s)
+      → votable (s .n) (rows s) (s .local .0) (s .bar .0) (s .voted .0) (picked s) ≡ true
+      → u ≡ withVote s (picked s) (s .own .0) (s .local .0) → Did space s r u
   clocked : (i c : ℕ) → is voteHeard r ≡ false → is castNow r ≡ false → i < s .n → u ≡ withClock s i c → Did space s r u
 
 -- the fields of a record of 96 bytes
@@ -227,8 +231,13 @@ module _ (s : State) (r : List ℕ) (k : is voteHeard r ≡ true) where
       eqb-false (senderOf r) (s .own .0)
       (sym (pick-yes (heard r) own (not own) hears) ∙ nor-r (leb (s .n) (senderOf r)) (pick (heard r) own (not own)) h)
 
-other-kind : (r : List ℕ) (a b : ℕ) → is a r ≡ true → eqb a b ≡ false → is b r ≡ false
+-- a record has one kind
+pub other-kind : (r : List ℕ) (a b : ℕ) → is a r ≡ true → eqb a b ≡ false → is b r ≡ false
 other-kind r a b k e = ap (λ (x : ℕ). eqb x b) (eqb-true (getD r 0 0) a k) ∙ e
+
+pub block-no-cast : (r : List ℕ) → (is proposalHeard r ≡ true) ⊎ (is proposeNow r ≡ true) → is castNow r ≡ false
+block-no-cast r (inl k) = other-kind r proposalHeard castNow k refl
+block-no-cast r (inr k) = other-kind r proposeNow castNow k refl
 
 module _ (space : ℕ → Bool) (s : State) (r out : List ℕ) (p : Passed space s r out) where
   did-proposal : is proposalHeard r ≡ true → Did space s r (proposalEffect s r)
@@ -287,18 +296,22 @@ module _ (space : ℕ → Bool) (s : State) (r out : List ℕ) (p : Passed space
       (λ k3. pick-case (Did space s r) (is proposeNow r) _ _ (did-propose some)
       (λ k4. pick-case (Did space s r) (is castNow r) _ _ did-cast (λ k5. clocked (s .own .0) (s .local .0 + 1) k2 k5 own refl)))))
 
--- ---- a call on a well-shaped state: refused and the same, or taken with what it did, then settled
+-- ---- a call on a well-shaped state
 
-pub data Stepped (space : ℕ → Bool) (s : State) (r out : List ℕ) : Type 0 where
-  refused : taken (stepShaped space s r out .answer) ≡ false → stepShaped space s r out .state ≡ s → Stepped space s r out
-  took : taken (stepShaped space s r out .answer) ≡ true → Passed space s r out → Did space s r (effect s r) → stepShaped space s r out .state ≡ settled (effect s r) → Stepped space s r out
+-- its outcome: refused and the same state, or taken with what it did, then settled
+pub data Stepped (space : ℕ → Bool) (s : State) (r out : List ℕ) (o : Outcome) : Type 0 where
+  refused : taken (o .answer) ≡ false → o .state ≡ s → Stepped space s r out o
+  took : taken (o .answer) ≡ true → Passed space s r out → Did space s r (effect s r) → o .state ≡ settled (effect s r) → Stepped space s r out o
 
-pub stepped : (space : ℕ → Bool) (s : State) (r out : List ℕ) → 0 < size (rows s) → s .own .0 < s .n → Stepped space s r out
+pub stepped : (space : ℕ → Bool) (s : State) (r out : List ℕ) → 0 < size (rows s) → s .own .0 < s .n → Stepped space s r out (stepShaped space s r out)
 unfolding stepShaped outcome
-stepped space s r out some own = go (either (taken (lowestOf (shapedRows space s r out))))
+stepped space s r out some own = go (either (taken a))
   where
-    go : (taken (lowestOf (shapedRows space s r out)) ≡ true) ⊎ (taken (lowestOf (shapedRows space s r out)) ≡ false) → Stepped space s r out
+    a : Answer
+    a = lowestOf (shapedRows space s r out)
+
+    go : (taken a ≡ true) ⊎ (taken a ≡ false) → Stepped space s r out (stepShaped space s r out)
     go (inl k) =
         took k (passed space s r out k) (did space s r out (passed space s r out k) some own)
-        (pick-yes (taken (lowestOf (shapedRows space s r out))) (settled (effect s r)) s k)
-    go (inr k) = refused k (pick-no (taken (lowestOf (shapedRows space s r out))) (settled (effect s r)) s k)
+        (pick-yes (taken a) (settled (effect s r)) s k)
+    go (inr k) = refused k (pick-no (taken a) (settled (effect s r)) s k)

@@ -1,17 +1,27 @@
--- The places that the rules pick are places of the table. Assumes nothing.
-use Prim.Native.Nat.{ℕ, zero, suc, _≤_, _<_}
-use mathlib.Core.Bool.{Bool, true, false}
-use mathlib.Core.List.{List, [], _∷_}
+-- The places that the rules go by: a name's, a parent's, the freshest block's, the candidate's, and what a block that may be voted for
+-- has. Assumes nothing.
+use Prim.Native.Nat.{ℕ, _≤_, _<_}
+use mathlib.Core.Bool.{Bool, true, false, not}
+use mathlib.Core.List.{List}
 use mathlib.Core.Logic.{_≢_, ⊎-elim}
-use mathlib.Core.Path.{_≡_, ap, _∙_}
+use mathlib.Core.Path.{_≡_, sym, ap, subst, _∙_}
 use native.Mathlib.Omega.{arith}
-use lib.Dec.{eqb, ltb}
-use borrow.Author.Tests.{ltb-true}
+use lib.Dec.{eqb, ltb, leb}
+use borrow.Author.Tests.{ltb-true, leb-true, eqb-true, eqb-false, not-true}
 use Rattle.table.specs.declared.Block.{Block}
 use Rattle.table.specs.Bytes.{same}
 use Rattle.table.specs.Rows.{size, at, find}
-use Rattle.table.proofs.Laws.{not-both, pick-case, lowest-below, highest-passes, same-refl}
-use Rattle.pala.specs.Rules.{epochAt, lower, fallIn, fall, parentOf, line, first, firm, freshest, normal, candidate}
+use Rattle.table.proofs.Laws.{not-both, pick-case, lowest-hit, lowest-below, highest-passes, same-refl, same-true}
+use Rattle.pala.specs.Rules.{epochAt, lower, fall, parentOf, line, first, firm, freshest, votable, normal, candidate}
+use Rattle.pala.proofs.Tests.{and-l, and-r}
+use Rattle.pala.proofs.Falls.{lower-is, lower-zero, lower-below, lower-le, climb, first-zero, first-up}
+
+-- ---- a name's place
+
+pub find-named : (t : List Block) (name : List ℕ) → find t name < size t → at t (find t name) .name ≡ name
+unfolding find
+find-named t name h =
+    same-true (at t (find t name) .name) name (lowest-hit (size t) (λ p. same (at t p .name) name) h)
 
 -- a name with no place in the table is no row's
 pub find-misses : (t : List Block) (name : List ℕ) → size t ≤ find t name → (p : ℕ) → p < size t → at t p .name ≢ name
@@ -20,47 +30,75 @@ find-misses t name h p l e =
     let other : same (at t p .name) name ≡ false = lowest-below (size t) (λ q. same (at t q .name) name) p (omega arith) in
     not-both (ap (λ (x : List ℕ). same x name) e ∙ same-refl name) other
 
--- the freshest block is a row
+-- ---- a parent's place: "places fall"
+
+module _ (t : List Block) where
+  pub parent-below : (p : ℕ) → 0 < p → parentOf t p < p
+  unfolding parentOf
+  parent-below = lower-below (λ a. at t a .parent .0)
+
+  -- the genesis is its own
+  pub parent-zero : parentOf t 0 ≡ 0
+  unfolding parentOf
+  parent-zero = lower-zero (λ a. at t a .parent .0)
+
+  pub parent-lower : (p : ℕ) → parentOf t p ≤ p
+  unfolding parentOf
+  parent-lower = lower-le (λ a. at t a .parent .0)
+
+  -- the parent as the row has it, where it is lower
+  pub parent-is : (p : ℕ) → at t p .parent .0 < p → parentOf t p ≡ at t p .parent .0
+  unfolding parentOf
+  parent-is = lower-is (λ a. at t a .parent .0)
+
+-- ---- the freshest block and the candidate are rows
+
 pub freshest-in : (n : ℕ) (t : List Block) → 0 < size t → freshest n t < size t
 unfolding freshest
 freshest-in n t h =
     ⊎-elim (λ (e : freshest n t ≡ 0). omega arith) (λ (e : (freshest n t < size t) × (firm n t (freshest n t) ≡ true)). e .0)
     (highest-passes (size t) (λ p. firm n t p) (λ p. epochAt t p))
 
--- "places fall"
-lower-le : (up : ℕ → ℕ) (p : ℕ) → lower up p ≤ p
-unfolding lower
-lower-le up p =
-    pick-case (λ (x : ℕ). x ≤ p) (ltb (up p) p) (up p) 0 (λ e. omega (arith, ltb-true (up p) p e)) (λ e. omega arith)
-
-pub parent-lower : (t : List Block) (p : ℕ) → parentOf t p ≤ p
-unfolding parentOf
-parent-lower t p = lower-le (λ a. at t a .parent .0) p
-
-first-one : (ok : ℕ → Bool) (p : ℕ) → first ok (p ∷ []) ≤ p
-unfolding first
-first-one ok p = pick-case (λ (x : ℕ). x ≤ p) (ok p) p 0 (λ e. omega arith) (λ e. omega arith)
-
-first-next : (ok : ℕ → Bool) (p : ℕ) (l : List ℕ) → first ok l ≤ p → first ok (p ∷ l) ≤ p
-unfolding first
-first-next ok p l h = pick-case (λ (x : ℕ). x ≤ p) (ok p) p (first ok l) (λ e. omega arith) (λ e. h)
-
-first-low : (ok : ℕ → Bool) (up : ℕ → ℕ) (k p : ℕ) → first ok (fallIn up k p) ≤ p
-unfolding fallIn
-first-low ok up zero p = first-one ok p
-first-low ok up (suc k) p = go (eqb p 0) (omega (arith, first-low ok up k (lower up p), lower-le up p))
-  where
-    go : (b : Bool) → first ok (fallIn up k (lower up p)) ≤ p → first ok (elim b as (λ _. List ℕ) [ true ↦ p ∷ [] | false ↦ p ∷ fallIn up k (lower up p) ]) ≤ p
-    go true h = first-one ok p
-    go false h = first-next ok p (fallIn up k (lower up p)) h
+first-low : (ok : ℕ → Bool) (up : ℕ → ℕ) (p : ℕ) → first ok (fall up p) ≤ p
+first-low ok up =
+    climb up (λ (p : ℕ). first ok (fall up p) ≤ p) (omega (arith, first-zero ok up))
+    (λ p h ih.
+    subst (λ (x : ℕ). x ≤ p) (sym (first-up ok up p h))
+    (pick-case (λ (x : ℕ). x ≤ p) (ok p) p (first ok (fall up (lower up p))) (λ e. omega arith)
+    (λ e. omega (arith, lower-below up p h))))
 
 pub candidate-in : (n : ℕ) (t : List Block) → 0 < size t → candidate n t < size t
-unfolding candidate line fall
+unfolding candidate line
 candidate-in n t h =
     let normals : ℕ → Bool = λ p. normal t p in
     omega (
       arith,
       freshest-in n t h,
-      first-low normals (λ a. at t a .parent .0) (freshest n t) (freshest n t),
+      first-low normals (λ a. at t a .parent .0) (freshest n t),
       parent-lower t (first normals (line t (freshest n t))),
     )
+
+-- ---- "A block may be voted for when ..", part by part
+
+pub record Votable (n : ℕ) (t : List Block) (local bar voted p : ℕ) : Type 0 where
+  pub above : 0 < p
+  pub now : epochAt t p ≡ local
+  pub firmly : firm n t (parentOf t p) ≡ true
+  pub fresher : bar ≤ epochAt t (parentOf t p)
+  pub new : voted ≢ local
+
+pub votable-parts : (n : ℕ) (t : List Block) (local bar voted p : ℕ) → votable n t local bar voted p ≡ true → Votable n t local bar voted p
+unfolding votable
+votable-parts n t local bar voted p h =
+    let a : ltb 0 p ≡ true = search (and-l, and-r) in
+    let b : eqb (epochAt t p) local ≡ true = search (and-l, and-r) in
+    let c : firm n t (parentOf t p) ≡ true = search (and-l, and-r) in
+    let d : leb bar (epochAt t (parentOf t p)) ≡ true = search (and-l, and-r) in
+    let e : not (eqb voted local) ≡ true = search (and-l, and-r) in
+    record {
+      above = ltb-true 0 p a;
+      now = eqb-true (epochAt t p) local b;
+      firmly = c;
+      fresher = leb-true bar (epochAt t (parentOf t p)) d;
+      new = eqb-false voted local (not-true (eqb voted local) e);
+    }

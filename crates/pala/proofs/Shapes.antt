@@ -1,6 +1,6 @@
 -- What a well-shaped state has, clause by clause of 01's "A state is well shaped when ..", as plain facts; and the other way. Assumes nothing.
 use Prim.Native.Nat.{ℕ, zero, suc, _≤_, _<_, zero-le}
-use mathlib.Core.Bool.{Bool, true, false, not, _&&_, _||_, and-eq-true-iff, and-false, true≢false, false≢true}
+use mathlib.Core.Bool.{Bool, true, false, not, _&&_, _||_, and-false, true≢false, false≢true}
 use mathlib.Core.List.{List, [], _∷_}
 use mathlib.Core.Logic.{_⊎_, inl, inr, ⊎-elim}
 use mathlib.Core.Path.{_≡_, refl, sym, ap, _∙_}
@@ -8,28 +8,20 @@ use native.Mathlib.Decide.{decLe, decLt}
 use native.Mathlib.Omega.{arith}
 use borrow.Author.Tests.{ltb-true, ltb-false, leb-true, eqb-true, lt-ltb, le-ltb, le-leb, lt-leb, eq-eqb, not-true}
 use lib.Dec.{ltb, leb, eqb}
-use lib.ListN.{length, getD, take, replicate, getD-replicate}
+use lib.ListN.{length, getD, take, replicate}
 use Rattle.table.specs.declared.Block.{Block}
 use Rattle.table.specs.declared.Epoch.{Epoch}
 use Rattle.table.specs.declared.State.{State}
 use Rattle.table.specs.Scan.{allBelow}
 use Rattle.table.specs.Bytes.{same, zeros}
-use Rattle.table.specs.Rows.{capacity, mostNodes, nameBytes, payloadBytes, blank, rows, at, hasVoter, plain, fresh, allZero}
+use Rattle.table.specs.Rows.{capacity, mostNodes, nameBytes, payloadBytes, blank, rows, at, hasVoter}
 use Rattle.table.proofs.Laws.{pick-yes, pick-no, allBelow-at, allBelow-all, zeros-true}
 use Rattle.pala.specs.Counts.{topEpoch, blockEpoch, clockOf, nodes}
 use Rattle.pala.specs.Rules.{epochAt}
 use Rattle.pala.specs.Shape.{nameOk, parentOk, votersOk, blockOk, noVoters, isBlank, placeOk, tableOk, clocksOk, wellShaped}
+pub use Rattle.pala.proofs.Tests.{and-l, and-r, and-both}
 
 -- ---- tests
-
-pub and-l : (a b : Bool) → (a && b) ≡ true → a ≡ true
-and-l a b h = and-eq-true-iff a b .0 h .0
-
-pub and-r : (a b : Bool) → (a && b) ≡ true → b ≡ true
-and-r a b h = and-eq-true-iff a b .0 h .1
-
-pub and-both : (a b : Bool) → a ≡ true → b ≡ true → (a && b) ≡ true
-and-both a b h k = and-eq-true-iff a b .1 (h, k)
 
 -- of two where the first fails the second holds
 pub or-r : (a b : Bool) → (a || b) ≡ true → a ≡ false → b ≡ true
@@ -60,18 +52,18 @@ from-all k n ok h =
 pub nodes-are : (n own : ℕ) → nodes n own ≡ true → (0 < n) × (n ≤ mostNodes) × (own < n)
 unfolding nodes
 nodes-are n own h =
-    let a = ltb 0 n in
-    let b = leb n mostNodes in
-    let c = ltb own n in
-    let ab = and-l (a && b) c h in
-    (ltb-true 0 n (and-l a b ab), leb-true n mostNodes (and-r a b ab), ltb-true own n (and-r (a && b) c h))
+    let a : ltb 0 n ≡ true = search (and-l, and-r) in
+    let b : leb n mostNodes ≡ true = search (and-l, and-r) in
+    let c : ltb own n ≡ true = search (and-l, and-r) in
+    (ltb-true 0 n a, leb-true n mostNodes b, ltb-true own n c)
 
 pub nodes-of : (n own : ℕ) → (0 < n) × (n ≤ mostNodes) × (own < n) → nodes n own ≡ true
 unfolding nodes
 nodes-of n own h =
-    let a = ltb 0 n in
-    let b = leb n mostNodes in
-    and-both (a && b) (ltb own n) (and-both a b (lt-ltb 0 n (h .0)) (le-leb n mostNodes (h .1))) (lt-ltb own n (h .2))
+    let a = lt-ltb 0 n (h .0) in
+    let b = le-leb n mostNodes (h .1) in
+    let c = lt-ltb own n (h .2) in
+    search and-both
 
 -- ---- the clocks
 
@@ -99,13 +91,7 @@ module _ (n : ℕ) (t : List Block) (p : ℕ) where
   block-tests : blockOk n t p ≡ true → Block-tests
   unfolding blockOk
   block-tests h =
-      let a = nameOk t p in
-      let b = parentOk t p in
-      let c = blockEpoch (epochAt t p) in
-      let d = votersOk n (at t p) in
-      let abc = and-l (a && b && c) d h in
-      let ab = and-l (a && b) c abc in
-      record { name = and-l a b ab; parent = and-r a b ab; epoch = and-r (a && b) c abc; voters = and-r (a && b && c) d h }
+      record { name = search (and-l, and-r); parent = search (and-l, and-r); epoch = search (and-l, and-r); voters = search (and-l, and-r) }
 
   module _ (h : blockOk n t p ≡ true) where
     -- "no block name all zero"
@@ -157,19 +143,13 @@ module _ (n : ℕ) (t : List Block) (p : ℕ) where
       → blockOk n t p ≡ true
   unfolding blockOk nameOk parentOk blockEpoch
   block-of name apart parent up top voters =
-      let e = epochAt t p in
-      let below : ℕ → Bool = λ r. not (same (at t r .name) (at t p .name)) in
-      let a = not (zeros (at t p .name)) && allBelow p below in
-      let b = ltb (at t p .parent .0) p && ltb (epochAt t (at t p .parent .0)) e in
-      let c = ltb 0 e && ltb e topEpoch in
-      let d = votersOk n (at t p) in
-      and-both (a && b && c) d
-      (and-both (a && b) c
-      (and-both a b
-      (and-both (not (zeros (at t p .name))) (allBelow p below) (ap not name) (allBelow-all p below (λ q l. ap not (apart q l))))
-      (and-both (ltb (at t p .parent .0) p) (ltb (epochAt t (at t p .parent .0)) e) (lt-ltb (at t p .parent .0) p parent) (lt-ltb (epochAt t (at t p .parent .0)) e up)))
-      (and-both (ltb 0 e) (ltb e topEpoch) (lt-ltb 0 e (omega arith)) (lt-ltb e topEpoch top)))
-      voters
+      let named : not (zeros (at t p .name)) ≡ true = ap not name in
+      let alone = allBelow-all p (λ r. not (same (at t r .name) (at t p .name))) (λ q l. ap not (apart q l)) in
+      let low = lt-ltb (at t p .parent .0) p parent in
+      let earlier = lt-ltb (epochAt t (at t p .parent .0)) (epochAt t p) up in
+      let some = lt-ltb 0 (epochAt t p) (omega arith) in
+      let below = lt-ltb (epochAt t p) topEpoch top in
+      search and-both
 
 -- ---- a row of zeros
 
@@ -195,33 +175,22 @@ module _ (b : Block) where
   pub blank-tests : isBlank b ≡ true → Blank-tests
   unfolding isBlank
   blank-tests h =
-      let v = zeros (b .name) in
-      let w = zeros (b .payload) in
-      let x = noVoters (b .voters) in
-      let y = eqb (b .epoch .0) 0 in
-      let z = eqb (b .parent .0) 0 in
-      let vwxy = and-l (v && w && x && y) z h in
-      let vwx = and-l (v && w && x) y vwxy in
-      let vw = and-l (v && w) x vwx in
+      let y : eqb (b .epoch .0) 0 ≡ true = search (and-l, and-r) in
+      let z : eqb (b .parent .0) 0 ≡ true = search (and-l, and-r) in
       record {
-        name = and-l v w vw;
-        payload = and-r v w vw;
-        voters = and-r (v && w) x vwx;
-        epoch = eqb-true (b .epoch .0) 0 (and-r (v && w && x) y vwxy);
-        parent = eqb-true (b .parent .0) 0 (and-r (v && w && x && y) z h);
+        name = search (and-l, and-r);
+        payload = search (and-l, and-r);
+        voters = search (and-l, and-r);
+        epoch = eqb-true (b .epoch .0) 0 y;
+        parent = eqb-true (b .parent .0) 0 z;
       }
 
   pub blank-of : Blank-tests → isBlank b ≡ true
   unfolding isBlank
   blank-of t =
-      let v = zeros (b .name) in
-      let w = zeros (b .payload) in
-      let x = noVoters (b .voters) in
-      let y = eqb (b .epoch .0) 0 in
-      let z = eqb (b .parent .0) 0 in
-      and-both (v && w && x && y) z
-      (and-both (v && w && x) y (and-both (v && w) x (and-both v w (t .name) (t .payload)) (t .voters)) (eq-eqb (b .epoch .0) 0 (t .epoch)))
-      (eq-eqb (b .parent .0) 0 (t .parent))
+      let y = eq-eqb (b .epoch .0) 0 (t .epoch) in
+      let z = eq-eqb (b .parent .0) 0 (t .parent) in
+      search and-both
 
   -- a row of zeros, of a row's length, is the blank one
   pub blank-is : isBlank b ≡ true → length (b .name) ≡ nameBytes → length (b .payload) ≡ payloadBytes → length (b .voters) ≡ mostNodes → b ≡ blank
@@ -283,23 +252,13 @@ module _ (s : State) where
   tests : wellShaped s ≡ true → Tests
   unfolding wellShaped
   tests h =
-      let a = nodes (s .n) (s .own .0) in
-      let b = leb (s .count) capacity in
-      let c = leb (s .kept .0) (s .count) in
-      let d = ltb 0 (s .local .0) in
-      let e = clocksOk (s .n) (s .clocks) in
-      let f = tableOk s in
-      let abcde = and-l (a && b && c && d && e) f h in
-      let abcd = and-l (a && b && c && d) e abcde in
-      let abc = and-l (a && b && c) d abcd in
-      let ab = and-l (a && b) c abc in
       record {
-        numbers = and-l a b ab;
-        count = and-r a b ab;
-        kept = and-r (a && b) c abc;
-        local = and-r (a && b && c) d abcd;
-        clocks = and-r (a && b && c && d) e abcde;
-        table = and-r (a && b && c && d && e) f h;
+        numbers = search (and-l, and-r);
+        count = search (and-l, and-r);
+        kept = search (and-l, and-r);
+        local = search (and-l, and-r);
+        clocks = search (and-l, and-r);
+        table = search (and-l, and-r);
       }
 
   module _ (h : wellShaped s ≡ true) where
@@ -368,37 +327,13 @@ module _ (s : State) where
   unfolding wellShaped tableOk
   shaped-of numbers count kept local clocks block unused =
       let place = placeOk (s .n) (s .count) (rows s) (s .blocks) in
-      let a = nodes (s .n) (s .own .0) in
-      let b = leb (s .count) capacity in
-      let c = leb (s .kept .0) (s .count) in
-      let d = ltb 0 (s .local .0) in
-      let e = clocksOk (s .n) (s .clocks) in
-      let f = allBelow (suc capacity) place in
       let at-place : (p : ℕ) → p < suc capacity → place p ≡ true =
       λ p l. ⊎-elim (λ z. place-held (s .n) (s .count) (rows s) (s .blocks) p (z .0) (z .1) ∙ block p (z .0) (z .1))
       (λ z. place-unused (s .n) (s .count) (rows s) (s .blocks) p z ∙ unused p z (omega arith)) (held-or-unused (s .count) p) in
-      and-both (a && b && c && d && e) f
-      (and-both (a && b && c && d) e
-      (and-both (a && b && c) d
-      (and-both (a && b) c
-      (and-both a b (nodes-of (s .n) (s .own .0) numbers) (le-leb (s .count) capacity count))
-      (le-leb (s .kept .0) (s .count) kept))
-      (lt-ltb 0 (s .local .0) local))
-      (clocks-of (s .n) (s .clocks) clocks))
-      (allBelow-all (suc capacity) place at-place)
-
--- ---- the states that a gateway starts from
-
--- "Fresh: local 1, all else 0, no blocks"
-pub fresh-shaped : (n own : ℕ) → nodes n own ≡ true → wellShaped (fresh n own) ≡ true
-unfolding fresh plain clockOf
-fresh-shaped n own h =
-    shaped-of (fresh n own) (nodes-are n own h) zero-le zero-le (omega arith)
-    (λ i l m. ap (λ (c : Epoch). c .0) (getD-replicate mostNodes i (record { 0 = 0 }) (record { 0 = 0 }) m))
-    (λ p l m. absurd (omega arith))
-    (λ p u l. ap isBlank (getD-replicate (suc capacity) p blank blank (omega arith)) ∙ blank-blank)
-
--- "an all-zero state, which every later call refuses with 1"
-pub all-zero-unshaped : wellShaped allZero ≡ false
-unfolding wellShaped nodes allZero plain
-all-zero-unshaped = refl
+      let a = nodes-of (s .n) (s .own .0) numbers in
+      let b = le-leb (s .count) capacity count in
+      let c = le-leb (s .kept .0) (s .count) kept in
+      let d = lt-ltb 0 (s .local .0) local in
+      let e = clocks-of (s .n) (s .clocks) clocks in
+      let f = allBelow-all (suc capacity) place at-place in
+      search and-both

@@ -1,7 +1,20 @@
 -- What tests joined by "and" and "or" tell. Assumes nothing.
-use mathlib.Core.Bool.{Bool, true, false, _&&_, _||_, true≢false}
+use mathlib.Core.Bool.{Bool, true, false, _&&_, _||_, and-eq-true-iff, true≢false}
 use mathlib.Core.Logic.{_⊎_, inl, inr}
 use mathlib.Core.Path.{_≡_, refl, sym}
+
+pub and-l : (a b : Bool) → (a && b) ≡ true → a ≡ true
+and-l a b h = and-eq-true-iff a b .0 h .0
+
+pub and-r : (a b : Bool) → (a && b) ≡ true → b ≡ true
+and-r a b h = and-eq-true-iff a b .0 h .1
+
+pub and-both : (a b : Bool) → a ≡ true → b ≡ true → (a && b) ≡ true
+and-both a b h k = and-eq-true-iff a b .1 (h, k)
+
+pub or-cases : (a b : Bool) → (a || b) ≡ true → (a ≡ true) ⊎ (b ≡ true)
+or-cases true b e = inl refl
+or-cases false b e = inr e
 
 pub or-l : (a b : Bool) → a ≡ true → (a || b) ≡ true
 or-l true b e = refl

@@ -1,8 +1,8 @@
--- A block's line down to the genesis, firmness along it, and both in a grown table. Assumes nothing.
+-- A block's line down to the genesis, firmness along it, and in a grown table. Assumes nothing.
 use Prim.Native.Nat.{ℕ, zero, suc, _≤_, _<_}
-use mathlib.Core.Bool.{Bool, true, false, _&&_, true≢false}
+use mathlib.Core.Bool.{Bool, true, false, _&&_, _||_, true≢false}
 use mathlib.Core.List.{List, [], _∷_}
-use mathlib.Core.Logic.{_⊎_, inl, inr}
+use mathlib.Core.Logic.{_⊎_, inl, inr, ⊎-elim}
 use mathlib.Core.Path.{_≡_, refl, sym, ap, subst, _∙_}
 use native.Mathlib.Nat.{le-trans}
 use native.Mathlib.Omega.{arith}
@@ -13,15 +13,17 @@ use Rattle.table.specs.Scan.{pick}
 use Rattle.table.specs.Rows.{size, at, hasVoter, votes, mostNodes}
 use Rattle.pala.specs.Counts.{quorum}
 use Rattle.pala.specs.Rules.{parentOf, line, every, among, first, notarized, firm}
+use Rattle.pala.proofs.Tests.{and-l, and-r, and-both, or-cases, or-l, or-r}
+use Rattle.pala.proofs.Falls as Falls
+use Rattle.pala.proofs.Falls.{fall-zero, fall-up, every-up, among-zero, among-up}
+use Rattle.pala.proofs.Grown.{Grown, grown-parent}
+use Rattle.pala.proofs.Places.{parent-below, parent-lower}
 use Rattle.pala.proofs.Demand.Quorums.{count-mono}
-use Rattle.pala.proofs.Demand.Tests.{and-l, and-r, and-both, or-cases, or-l, or-r}
-use Rattle.pala.proofs.Demand.Falls.{climb-lower, fall-zero, fall-up}
-use Rattle.pala.proofs.Demand.Tables.{Grown, parent-below, parent-lower, grown-parent}
 
 -- what holds of the genesis, and of a block where it holds of its parent, holds at every place
 pub climb : (t : List Block) (P : ℕ → Type 0) → P 0 → ((p : ℕ) → 0 < p → P (parentOf t p) → P p) → (p : ℕ) → P p
 unfolding parentOf
-climb t P base step p = climb-lower (λ a. at t a .parent .0) P base step p
+climb t = Falls.climb (λ a. at t a .parent .0)
 
 pub line-zero : (t : List Block) → line t 0 ≡ 0 ∷ []
 unfolding line
@@ -33,32 +35,29 @@ unfolding line parentOf
 line-up t p h = fall-up (λ a. at t a .parent .0) p h
 
 -- a place on the line: the block or on its parent's line
+on-step : (t : List Block) (p a : ℕ) → 0 < p → among a (line t p) ≡ (eqb p a || among a (line t (parentOf t p)))
+unfolding line parentOf
+on-step t p a h = among-up a (λ x. at t x .parent .0) p h
+
 pub on-self : (t : List Block) (p : ℕ) → among p (line t p) ≡ true
-unfolding among
-on-self t zero = ap (among 0) (line-zero t)
+unfolding line parentOf
+on-self t zero = among-zero 0 (λ a. at t a .parent .0)
 on-self t (suc p) =
-    ap (among (suc p)) (line-up t (suc p) (omega arith))
+    on-step t (suc p) (suc p) (omega arith)
     ∙ or-l (eqb (suc p) (suc p)) (among (suc p) (line t (parentOf t (suc p)))) (eq-eqb (suc p) (suc p) refl)
 
 pub on-up : (t : List Block) (p a : ℕ) → 0 < p → among a (line t (parentOf t p)) ≡ true → among a (line t p) ≡ true
-unfolding among
-on-up t p a h e = ap (among a) (line-up t p h) ∙ or-r (eqb p a) (among a (line t (parentOf t p))) e
+on-up t p a h e = on-step t p a h ∙ or-r (eqb p a) (among a (line t (parentOf t p))) e
 
 pub on-zero : (t : List Block) (a : ℕ) → among a (line t 0) ≡ true → 0 ≡ a
-unfolding among
-on-zero t a e = go (or-cases (eqb 0 a) false (sym (ap (among a) (line-zero t)) ∙ e))
-  where
-    go : (eqb 0 a ≡ true) ⊎ (false ≡ true) → 0 ≡ a
-    go (inl x) = eqb-true 0 a x
-    go (inr x) = absurd (true≢false (sym x))
+unfolding line
+on-zero t a e =
+    ⊎-elim (λ x. eqb-true 0 a x) (λ x. absurd (true≢false (sym x)))
+    (or-cases (eqb 0 a) false (sym (among-zero a (λ x. at t x .parent .0)) ∙ e))
 
 pub on-cases : (t : List Block) (p a : ℕ) → 0 < p → among a (line t p) ≡ true → (p ≡ a) ⊎ (among a (line t (parentOf t p)) ≡ true)
-unfolding among
-on-cases t p a h e = go (or-cases (eqb p a) (among a (line t (parentOf t p))) (sym (ap (among a) (line-up t p h)) ∙ e))
-  where
-    go : (eqb p a ≡ true) ⊎ (among a (line t (parentOf t p)) ≡ true) → (p ≡ a) ⊎ (among a (line t (parentOf t p)) ≡ true)
-    go (inl x) = inl (eqb-true p a x)
-    go (inr x) = inr x
+on-cases t p a h e =
+    ⊎-elim (λ x. inl (eqb-true p a x)) (λ x. inr x) (or-cases (eqb p a) (among a (line t (parentOf t p))) (sym (on-step t p a h) ∙ e))
 
 -- what passes from each block to its parent passes down the line
 pub down : (t : List Block) (P : ℕ → Type 0) → ((p : ℕ) → 0 < p → P p → P (parentOf t p))
@@ -85,8 +84,8 @@ unfolding firm every notarized
 firm-zero n t = ap (every (λ a. notarized n t a)) (line-zero t)
 
 pub firm-up : (n : ℕ) (t : List Block) (p : ℕ) → 0 < p → firm n t p ≡ (notarized n t p && firm n t (parentOf t p))
-unfolding firm every
-firm-up n t p h = ap (every (λ a. notarized n t a)) (line-up t p h)
+unfolding firm line parentOf
+firm-up n t p h = every-up (λ a. notarized n t a) (λ a. at t a .parent .0) p h
 
 pub firm-own : (n : ℕ) (t : List Block) (p : ℕ) → 0 < p → firm n t p ≡ true → notarized n t p ≡ true
 firm-own n t p h e = and-l (notarized n t p) (firm n t (parentOf t p)) (sym (firm-up n t p h) ∙ e)
@@ -103,27 +102,12 @@ firm-on n t p a = down t (λ x. firm n t x ≡ true) (λ x pos. firm-parent n t 
 -- a block's votes reach the quorum
 pub notarized-votes : (n : ℕ) (t : List Block) (p : ℕ) → 0 < p → notarized n t p ≡ true → quorum n ≤ votes (at t p)
 unfolding notarized
-notarized-votes n t p h e = go (or-cases (eqb p 0) (leb (quorum n) (votes (at t p))) e)
-  where
-    go : (eqb p 0 ≡ true) ⊎ (leb (quorum n) (votes (at t p)) ≡ true) → quorum n ≤ votes (at t p)
-    go (inl x) = absurd (omega (arith, eqb-true p 0 x))
-    go (inr x) = leb-true (quorum n) (votes (at t p)) x
+notarized-votes n t p h e =
+    ⊎-elim (λ x. absurd (omega (arith, eqb-true p 0 x))) (λ x. leb-true (quorum n) (votes (at t p)) x)
+    (or-cases (eqb p 0) (leb (quorum n) (votes (at t p))) e)
 
--- a grown table keeps lines, votes and firmness
+-- a grown table keeps votes and firmness
 module _ {t u : List Block} (g : Grown t u) where
-  pub grown-line : (p : ℕ) → p < size t → line u p ≡ line t p
-  grown-line = climb t (λ p. p < size t → line u p ≡ line t p) base step
-    where
-      base : 0 < size t → line u 0 ≡ line t 0
-      base h = line-zero u ∙ sym (line-zero t)
-
-      step : (p : ℕ) → 0 < p → (parentOf t p < size t → line u (parentOf t p) ≡ line t (parentOf t p)) → p < size t → line u p ≡ line t p
-      step p pos ih h =
-          line-up u p pos
-          ∙ ap (λ q. p ∷ line u q) (grown-parent g p h)
-          ∙ ap (λ l. p ∷ l) (ih (omega (arith, parent-below t p pos)))
-          ∙ sym (line-up t p pos)
-
   pub grown-votes : (p : ℕ) → p < size t → votes (at t p) ≤ votes (at u p)
   unfolding votes
   grown-votes p h =

@@ -6,6 +6,10 @@ use mathlib.Core.Path.{_≡_, refl, sym, ap, _∙_}
 use native.Mathlib.Decide.{decLe}
 use native.Mathlib.Omega.{arith}
 
+-- the second list goes on from the first
+abbrev pub Goes : {X : Type 0} → List X → List X → Type 0
+Goes {X} l m = (rest : List X) × (m ≡ l ++ rest)
+
 module _ {X : Type 0} (root : X) (epoch : X → ℕ) (parent : X → X) where
   -- x is a or descends from it; each step down goes to a smaller epoch
   pub data On (a : X) : X → Type 0 where
@@ -72,7 +76,7 @@ module _ {X : Type 0} (root : X) (epoch : X → ℕ) (parent : X → X) where
   chain-one e (more g c) (more h d) = cc (chain-one (ap parent e) c d)
 
   -- the chain of what is on a begins with the chain of a
-  pub begins : {a x : X} {l m : List X} → On a x → Chain a l → Chain x m → (rest : List X) × (m ≡ l ++ rest)
+  pub begins : {a x : X} {l m : List X} → On a x → Chain a l → Chain x m → Goes l m
   begins {l = l} here c d = ([], chain-one refl d c ∙ sym (append-nil l))
   begins (up g o) c none = absurd (omega (arith, on-epoch o, chain-epoch c))
   begins {x = x} {l} (up g o) c (more h d) =
@@ -141,6 +145,6 @@ module _ {X : Type 0} (root : X) (epoch : X → ℕ) (parent : X → X) where
 
     -- of the chains of two kept blocks one begins the other
     pub chains-agree : {x y : X} {l m : List X} → Kept k Notarized x → Kept k Notarized y → Chain x l → Chain y m
-        → ((rest : List X) × (m ≡ l ++ rest)) ⊎ ((rest : List X) × (l ≡ m ++ rest))
+        → Goes l m ⊎ Goes m l
     chains-agree kx ky cx cy =
         elim (in-line kx ky) [ inl o ↦ inl (begins o cx cy) | inr o ↦ inr (begins o cy cx) ]

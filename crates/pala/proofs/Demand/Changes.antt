@@ -2,22 +2,23 @@
 use Prim.Native.Nat.{ℕ, _<_}
 use mathlib.Core.Bool.{true}
 use mathlib.Core.List.{List, [], _∷_, _++_}
-use mathlib.Core.Logic.{_≢_, _⊎_, inl, inr}
+use mathlib.Core.Logic.{_≢_, _⊎_, inl, inr, ⊎-elim}
 use mathlib.Core.Path.{_≡_, sym, ap, _∙_}
 use native.Mathlib.Decide.{decLt, ℕ-discrete}
 use native.Mathlib.Omega.{arith}
 use lib.ListN.{length, set, length-set}
 use Rattle.table.specs.declared.Block.{Block}
 use Rattle.table.specs.declared.State.{State}
-use Rattle.table.specs.Rows.{rows, size, at, find, hasVoter, withVoter}
-use Rattle.pala.specs.Effects.{withBlock, picked}
+use Rattle.table.specs.Rows.{rows, size, at, hasVoter, withVoter}
+use Rattle.pala.specs.Effects.{withBlock, withVote, picked}
 use Rattle.pala.specs.Record.{senderOf, nameOf, is, proposalHeard, voteHeard, proposeNow, castNow}
+use Rattle.pala.specs.Step.{room}
 use Rattle.table.proofs.Laws.{not-both}
-use Rattle.pala.proofs.Demand.Tables.{size-append, at-append, at-last, at-set-same, at-set-other, voter-was}
-use Rattle.pala.proofs.Demand.Freshest.{find-named}
-use Rattle.pala.proofs.Demand.States.{rows-block, rows-vote, rows-clock}
-use Rattle.pala.proofs.Demand.Moves.{Did, added, counted, cast, clocked}
-use Rattle.pala.proofs.Demand.Healthy.{Healthy, healthy-size, inside, next-inside, held}
+use Rattle.pala.proofs.Grown.{size-append, at-append, at-last, at-vote, voter-was, rows-clock}
+use Rattle.pala.proofs.Places.{find-named}
+use Rattle.pala.proofs.Moves.{Did, added, counted, cast, clocked}
+use Rattle.pala.proofs.Keeps.{Proper, size-proper}
+use Rattle.pala.proofs.Demand.Healthy.{after-block, after-vote}
 
 -- a voter that the table u shows at a place: it was there, or a vote was heard, or the gateway cast its own
 pub data Voter (s : State) (r : List ℕ) (p j : ℕ) : Type 0 where
@@ -27,28 +28,30 @@ pub data Voter (s : State) (r : List ℕ) (p j : ℕ) : Type 0 where
   itsOwn : is castNow r ≡ true → j ≡ s .own .0 → p ≡ picked s → p < size (rows s) → Voter s r p j
 
 -- a row after one voter more: as it was, or that row and that voter
-set-voter : (t : List Block) (q i p j : ℕ) → p < size t → hasVoter (at (set t q (withVoter (at t q) i)) p) j ≡ true
+set-voter : (t : List Block) (q i p j : ℕ) → q < size t → p < size t → hasVoter (at (set t q (withVoter (at t q) i)) p) j ≡ true
     → (hasVoter (at t p) j ≡ true) ⊎ ((p ≡ q) × (j ≡ i))
-unfolding withVoter hasVoter
-set-voter t q i p j h v =
-    elim (ℕ-discrete p q) [
-      | no d ↦ inl (sym (ap (λ (x : Block). hasVoter x j) (at-set-other t q p (withVoter (at t q) i) h d)) ∙ v)
-      | yes d ↦
-          elim (ℕ-discrete j i) [
-            | yes e ↦ inr (d, e)
-            | no e ↦
-                let k : q < size t = rw (← d) h in
-                inl
-                (ap (λ x. hasVoter (at t x) j) d
-                ∙ sym (voter-was (at t q .voters) i j e)
-                ∙ sym (ap (λ (x : Block). hasVoter x j) (ap (at (set t q (withVoter (at t q) i))) d ∙ at-set-same t q (withVoter (at t q) i) k))
-                ∙ v)
-          ]
-    ]
+set-voter t q i p j l =
+    at-vote (λ b. hasVoter b j ≡ true → (hasVoter (at t p) j ≡ true) ⊎ ((p ≡ q) × (j ≡ i))) t q i p l
+    (λ d v.
+    elim (ℕ-discrete j i) [
+      | yes e ↦ inr (d, e)
+      | no e ↦ inl (ap (λ x. hasVoter (at t x) j) d ∙ sym (voter-was (at t q) i j e) ∙ v)
+    ])
+    (λ _ v. inl v)
 
-module _ {s : State} (h : Healthy s) where
-  pub new-voter : {r : List ℕ} {u : State} → Did s r u → (p j : ℕ) → p < size (rows u) → hasVoter (at (rows u) p) j ≡ true → Voter s r p j
-  new-voter {r} {u} (added b proposed k w l e) p j within v =
+module _ {s : State} (k : Proper s) where
+  vote-size : {u : State} (q i voted : ℕ) → q < size (rows s) → u ≡ withVote s q i voted → size (rows u) ≡ size (rows s)
+  vote-size q i voted l e = ap length (after-vote k q i voted l e) ∙ length-set (rows s) q (withVoter (at (rows s) q) i)
+
+  -- a voter after a vote was there, or it is that voter at that place
+  voter-of : {u : State} (q i voted p j : ℕ) → q < size (rows s) → u ≡ withVote s q i voted → p < size (rows u) → hasVoter (at (rows u) p) j ≡ true
+      → (p < size (rows s)) × ((hasVoter (at (rows s) p) j ≡ true) ⊎ ((p ≡ q) × (j ≡ i)))
+  voter-of q i voted p j l e within v =
+      let inside : p < size (rows s) = omega (arith, vote-size q i voted l e) in
+      (inside, set-voter (rows s) q i p j l inside (sym (ap (λ x. hasVoter (at x p) j) (after-vote k q i voted l e)) ∙ v))
+
+  pub new-voter : {r : List ℕ} {u : State} → Did room s r u → (p j : ℕ) → p < size (rows u) → hasVoter (at (rows u) p) j ≡ true → Voter s r p j
+  new-voter {r} {u} (added b proposed kind w l e) p j within v =
       elim (decLt p (size t)) [
         | yes m ↦ old m (sym (ap (λ (x : Block). hasVoter x j) (ap (λ x. at x p) et ∙ at-append t b p m)) ∙ v)
         | no m ↦
@@ -61,84 +64,29 @@ module _ {s : State} (h : Healthy s) where
       t = rows s
 
       et : rows u ≡ t ++ (b ∷ [])
-      et = ap rows e ∙ rows-block s b proposed (next-inside h l)
-  new-voter {r} {u} (counted k pos l below other e) p j within v = go (set-voter t q i p j m (sym (ap (λ x. hasVoter (at x p) j) et) ∙ v))
-    where
-      t : List Block
-      t = rows s
-
-      q : ℕ
-      q = find t (nameOf r)
-
-      i : ℕ
-      i = senderOf r
-
-      et : rows u ≡ set t q (withVoter (at t q) i)
-      et = ap rows e ∙ rows-vote s q i (s .voted .0) (held h q l) (inside h)
-
-      m : p < size t
-      m = omega (arith, ap length et, length-set t q (withVoter (at t q) i))
-
-      go : (hasVoter (at t p) j ≡ true) ⊎ ((p ≡ q) × (j ≡ i)) → Voter s r p j
-      go (inl x) = old m x
-      go (inr (x, y)) = heardOf k y other m (ap (λ z. at t z .name) x ∙ find-named t (nameOf r) l)
-  new-voter {r} {u} (cast k l w e) p j within v = go (set-voter t q i p j m (sym (ap (λ x. hasVoter (at x p) j) et) ∙ v))
-    where
-      t : List Block
-      t = rows s
-
-      q : ℕ
-      q = picked s
-
-      i : ℕ
-      i = s .own .0
-
-      et : rows u ≡ set t q (withVoter (at t q) i)
-      et = ap rows e ∙ rows-vote s q i (s .local .0) (held h q l) (inside h)
-
-      m : p < size t
-      m = omega (arith, ap length et, length-set t q (withVoter (at t q) i))
-
-      go : (hasVoter (at t p) j ≡ true) ⊎ ((p ≡ q) × (j ≡ i)) → Voter s r p j
-      go (inl x) = old m x
-      go (inr (x, y)) = itsOwn k y x m
-  new-voter {r} {u} (clocked i c k2 k5 e) p j within v =
+      et = after-block k b proposed l e
+  new-voter {r} (counted kind pos l below other e) p j within v =
+      let (m, w) = voter-of _ _ _ p j l e within v in
+      ⊎-elim (λ x. old m x) (λ x. heardOf kind (x .1) other m (ap (λ z. at (rows s) z .name) (x .0) ∙ find-named (rows s) (nameOf r) l)) w
+  new-voter (cast kind l may e) p j within v =
+      let (m, w) = voter-of _ _ _ p j l e within v in
+      ⊎-elim (λ x. old m x) (λ x. itsOwn kind (x .1) (x .0) m) w
+  new-voter {r} {u} (clocked i c k2 k5 below e) p j within v =
       old (omega (arith, ap length et)) (sym (ap (λ x. hasVoter (at x p) j) et) ∙ v)
     where
       et : rows u ≡ rows s
       et = ap rows e ∙ rows-clock s i c
 
   -- a place that the table u has: it was there, or a block came and it is the last
-  pub new-place : {r : List ℕ} {u : State} → Did s r u → (p : ℕ) → p < size (rows u)
+  pub new-place : {r : List ℕ} {u : State} → Did room s r u → (p : ℕ) → p < size (rows u)
       → (p < size (rows s)) ⊎ (((is proposalHeard r ≡ true) ⊎ (is proposeNow r ≡ true)) × (p ≡ u .count))
   unfolding withBlock
-  new-place {r} {u} (added b proposed k w l e) p within =
+  new-place (added b proposed kind w l e) p within =
       elim (decLt p (size (rows s))) [
         | yes m ↦ inl m
         | no m ↦
-            inr (
-              k,
-              omega (
-                arith,
-                ap length (ap rows e ∙ rows-block s b proposed (next-inside h l)),
-                size-append (rows s) b,
-                healthy-size h,
-                ap (λ (x : State). x .count) e,
-              ),
-            )
+            inr (kind, omega (arith, ap length (after-block k b proposed l e), size-append (rows s) b, size-proper k, ap (λ (x : State). x .count) e))
       ]
-  new-place {r} {u} (counted k pos l below other e) p within =
-      inl
-      (omega (
-        arith,
-        ap length (ap rows e ∙ rows-vote s (find (rows s) (nameOf r)) (senderOf r) (s .voted .0) (held h _ l) (inside h)),
-        length-set (rows s) (find (rows s) (nameOf r)) (withVoter (at (rows s) (find (rows s) (nameOf r))) (senderOf r)),
-      ))
-  new-place {r} {u} (cast k l w e) p within =
-      inl
-      (omega (
-        arith,
-        ap length (ap rows e ∙ rows-vote s (picked s) (s .own .0) (s .local .0) (held h _ l) (inside h)),
-        length-set (rows s) (picked s) (withVoter (at (rows s) (picked s)) (s .own .0)),
-      ))
-  new-place {r} {u} (clocked i c k2 k5 e) p within = inl (omega (arith, ap length (ap rows e ∙ rows-clock s i c)))
+  new-place (counted kind pos l below other e) p within = inl (omega (arith, vote-size _ _ _ l e))
+  new-place (cast kind l may e) p within = inl (omega (arith, vote-size _ _ _ l e))
+  new-place (clocked i c k2 k5 below e) p within = inl (omega (arith, ap length (ap rows e ∙ rows-clock s i c)))

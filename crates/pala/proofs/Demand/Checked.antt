@@ -1,9 +1,9 @@
 -- The premises event by event, as a test that a concrete run can be put to. Assumes nothing.
 use Prim.Native.Nat.{ℕ}
-use mathlib.Core.Bool.{Bool, true, false, not, _&&_, _||_}
+use mathlib.Core.Bool.{Bool, true, not, _&&_, _||_}
 use mathlib.Core.List.{List, [], _∷_}
 use mathlib.Core.Logic.{_⊎_, inl, inr}
-use mathlib.Core.Path.{_≡_, refl}
+use mathlib.Core.Path.{_≡_, ap}
 use lib.Dec.{eqb, ltb}
 use lib.ListN.{length, getD}
 use borrow.Author.Tests.{eqb-true, eq-eqb, ltb-true}
@@ -16,8 +16,9 @@ use Rattle.pala.specs.Record.{kindOf, senderOf, nameOf, is, proposalHear
 use Rattle.pala.specs.Rules.{epochAt, parentOf}
 use Rattle.pala.specs.Safety.{Run, eventAt, outcomeAt, Cast, Book, Fits}
 use Rattle.pala.specs.Events.{EachTaken}
-use Rattle.table.proofs.Laws.{not-both, same-true, allBelow-at}
-use Rattle.pala.proofs.Demand.Tests.{and-l, and-r, and-both, or-l, or-r}
+use Rattle.table.proofs.Laws.{same-true, allBelow-at}
+use Rattle.pala.proofs.Shapes as Shapes
+use Rattle.pala.proofs.Tests.{and-l, and-r, and-both, or-l, or-r}
 
 -- does every test hold
 unfoldable pub allOf : List Bool → Bool
@@ -98,8 +99,7 @@ fits-tested book t p h =
 
 -- where a premise holds the other side of the test does
 implied : (a b : Bool) → (not a || b) ≡ true → a ≡ true → b ≡ true
-implied true b h e = h
-implied false b h e = absurd (not-both e refl)
+implied a b h e = Shapes.or-r (not a) b h (ap not e)
 
 -- a run whose every event passes meets the premises event by event
 pub each-tested : (n : ℕ) (honest : ℕ → Bool) (run : Run) (book : Book) (casts : List ℕ)

@@ -1,6 +1,6 @@
--- Scans, the freshest block, the candidate, and a name's place. Assumes nothing.
+-- The freshest block, and what may be kept: the genesis, or the parent of a firm normal block, as the candidate is. Assumes nothing.
 use Prim.Native.Nat.{ℕ, _+_, _≤_, _<_}
-use mathlib.Core.Bool.{Bool, true}
+use mathlib.Core.Bool.{true}
 use mathlib.Core.List.{List}
 use mathlib.Core.Logic.{_⊎_, inl, inr, ⊎-elim}
 use mathlib.Core.Path.{_≡_, refl, sym, ap, _∙_}
@@ -8,35 +8,24 @@ use native.Mathlib.Decide.{ℕ-discrete}
 use native.Mathlib.Omega.{arith}
 use borrow.Author.Tests.{eqb-true}
 use Rattle.table.specs.declared.Block.{Block}
-use Rattle.table.specs.Scan.{highest}
-use Rattle.table.specs.Bytes.{same}
-use Rattle.table.specs.Rows.{size, at, find}
+use Rattle.table.specs.Rows.{size}
 use Rattle.pala.specs.Rules.{epochAt, parentOf, line, among, first, firm, freshest, normal, candidate}
-use Rattle.table.proofs.Laws.{not-both, same-true, lowest-hit, lowest-below, highest-passes, highest-wins}
-use Rattle.pala.proofs.Demand.Tests.{same-eq}
-use Rattle.pala.proofs.Demand.Tables.{Grown, parent-below, parent-zero, grown-parent, grown-epoch}
+use Rattle.table.proofs.Laws.{highest-passes, highest-wins}
+use Rattle.pala.proofs.Grown.{Grown, grown-parent, grown-epoch}
+use Rattle.pala.proofs.Places.{parent-below, parent-zero, freshest-in}
 use Rattle.pala.proofs.Demand.Ancestors.{firm-zero, firm-on, on-lower, first-found, grown-firm}
-
--- the highest of some numbers, where 0 passes
-highest-in : (k : ℕ) (ok : ℕ → Bool) (rank : ℕ → ℕ) → 0 < k → ok 0 ≡ true → (highest k ok rank < k) × (ok (highest k ok rank) ≡ true)
-highest-in k ok rank h e = ⊎-elim (λ z. (omega arith, ap ok z ∙ e)) (λ w. w) (highest-passes k ok rank)
-
-highest-best : (k : ℕ) (ok : ℕ → Bool) (rank : ℕ → ℕ) (q : ℕ) → q < k → ok q ≡ true → rank q ≤ rank (highest k ok rank)
-highest-best k ok rank q h e = ⊎-elim (λ l. omega arith) (λ w. omega arith) (highest-wins k ok rank q h e)
 
 -- "Freshest: the firm block of highest epoch"
 module _ (n : ℕ) (t : List Block) where
-  pub freshest-in : 0 < size t → freshest n t < size t
+  pub freshest-firm : firm n t (freshest n t) ≡ true
   unfolding freshest
-  freshest-in h = highest-in (size t) (λ p. firm n t p) (λ p. epochAt t p) h (firm-zero n t) .0
-
-  pub freshest-firm : 0 < size t → firm n t (freshest n t) ≡ true
-  unfolding freshest
-  freshest-firm h = highest-in (size t) (λ p. firm n t p) (λ p. epochAt t p) h (firm-zero n t) .1
+  freshest-firm =
+      ⊎-elim (λ e. ap (firm n t) e ∙ firm-zero n t) (λ e. e .1) (highest-passes (size t) (λ p. firm n t p) (λ p. epochAt t p))
 
   pub freshest-best : (p : ℕ) → p < size t → firm n t p ≡ true → epochAt t p ≤ epochAt t (freshest n t)
   unfolding freshest
-  freshest-best p h e = highest-best (size t) (λ p. firm n t p) (λ p. epochAt t p) p h e
+  freshest-best p h e =
+      ⊎-elim (λ l. omega arith) (λ l. omega arith) (highest-wins (size t) (λ p. firm n t p) (λ p. epochAt t p) p h e)
 
 -- a grown table's freshest epoch is no lower
 pub freshest-grows : {t u : List Block} → Grown t u → (n : ℕ) → 0 < size t → epochAt t (freshest n t) ≤ epochAt u (freshest n u)
@@ -44,7 +33,7 @@ freshest-grows {t} {u} g n h =
     let f : freshest n t < size t = freshest-in n t h in
     let e : epochAt u (freshest n t) ≡ epochAt t (freshest n t) = grown-epoch g (freshest n t) f in
     let b : epochAt u (freshest n t) ≤ epochAt u (freshest n u) =
-    freshest-best n u (freshest n t) (omega (arith, g .longer)) (grown-firm g n (freshest n t) f (freshest-firm n t h)) in
+    freshest-best n u (freshest n t) (omega (arith, g .longer)) (grown-firm g n (freshest n t) f (freshest-firm n t)) in
     omega arith
 
 -- c is the parent of a firm normal block
@@ -101,19 +90,8 @@ candidate-kept n t h = go (first (λ p. normal t p) (line t (freshest n t))) (fi
                 child = y;
                 above = omega arith;
                 within = omega (arith, on-lower t (freshest n t) y a, freshest-in n t h);
-                firmly = firm-on n t (freshest n t) y a (freshest-firm n t h);
+                firmly = firm-on n t (freshest n t) y a (freshest-firm n t);
                 next = eqb-true (epochAt t y) (epochAt t (parentOf t y) + 1) o;
                 parent = refl;
               })
         ]
-
--- the place of a name
-pub find-named : (t : List Block) (name : List ℕ) → find t name < size t → at t (find t name) .name ≡ name
-unfolding find
-find-named t name h =
-    same-true (at t (find t name) .name) name (lowest-hit (size t) (λ p. same (at t p .name) name) h)
-
-pub find-absent : (t : List Block) (name : List ℕ) → size t ≤ find t name → (p : ℕ) → p < size t → at t p .name ≡ name → ⊥
-unfolding find
-find-absent t name h p l e =
-    not-both (same-eq (at t p .name) name e) (lowest-below (size t) (λ q. same (at t q .name) name) p (omega (arith, h)))

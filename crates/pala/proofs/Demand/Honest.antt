@@ -16,20 +16,19 @@ use Rattle.pala.specs.Effects.{picked, effect}
 use Rattle.pala.specs.Rules.{epochAt, parentOf, notarized}
 use Rattle.pala.specs.Steps.{settled}
 use Rattle.pala.specs.Safety.{Run, eventAt, stateAt, tableAt, Honest, Cast, Held, Book, Premises}
-use Rattle.table.proofs.Laws.{pick-yes, pick-no, same-false, fails, not-both}
-use Rattle.pala.proofs.Demand.Tests.{same-eq}
+use Rattle.table.proofs.Laws.{pick-yes, pick-no, same-refl, same-false, not-both}
+use Rattle.pala.proofs.Shapes.{block-voter}
+use Rattle.pala.proofs.Places.{parent-below}
 use Rattle.pala.proofs.Demand.Quorums.{count-cut, overlap}
 use Rattle.pala.proofs.Demand.Chains.{Keeps}
 use Rattle.pala.proofs.Demand.Log.{Vote, In, Sane, sane-start}
-use Rattle.pala.proofs.Demand.Tables.{parent-below}
 use Rattle.pala.proofs.Demand.Ancestors.{notarized-votes}
 use Rattle.pala.proofs.Demand.Freshest.{Kept}
-use Rattle.pala.proofs.Demand.Sound.{Sound, not-root}
-use Rattle.pala.proofs.Demand.Moves.{Stepped, refused, took, stepped}
+use Rattle.pala.proofs.Demand.Sound.{Sound, shaped-sound, not-root}
 use Rattle.pala.proofs.Demand.Healthy.{Healthy}
 use Rattle.pala.proofs.Demand.Voting.{Logged, voteAt, Spoke, silent, spoke, did-spoke}
-use Rattle.pala.proofs.Demand.Casts.{cast-later, kind-at, its-at, taken-at, name-at}
-use Rattle.pala.proofs.Demand.Runs.{Went, idle, called, went, starts, fresh-epoch, reached, reached-same}
+use Rattle.pala.proofs.Demand.Casts.{cast-later, kind-at, happened-at, its-at, taken-at, name-at}
+use Rattle.pala.proofs.Demand.Runs.{Next, stayed, moved, next, starts, fresh-epoch, reached, reached-same}
 use Rattle.pala.proofs.Demand.Names.{Faithful}
 
 -- the book's epoch and parent of a name; the genesis has epoch 0
@@ -56,7 +55,7 @@ module _ (n : ℕ) (honest : ℕ → Bool) (run : Run) (pr : Premises n honest r
 
   pub table-sound : (m i : ℕ) → Honest n honest i → Sound n (tableAt n run m i)
   unfolding tableAt
-  table-sound m i hi = subst (λ k. Sound k (rows (stateAt n run m i))) (nodes-same m i hi) (healthy m i hi .sound)
+  table-sound m i hi = subst (λ k. Sound k (rows (stateAt n run m i))) (nodes-same m i hi) (shaped-sound (stateAt n run m i) (healthy m i hi .proper))
 
   pub table-kept : (m i : ℕ) → Honest n honest i → Kept n (tableAt n run m i) (stateAt n run m i .kept .0)
   unfolding tableAt
@@ -82,7 +81,7 @@ module _ (n : ℕ) (honest : ℕ → Bool) (run : Run) (pr : Premises n honest r
       epochs : (p : ℕ) → p < size t → Dec (p ≡ 0) → epoch (at t p .name) ≡ epochAt t p
       epochs p h (yes z) =
           pick-yes (same (at t p .name) noName) 0 (pr .book (at t p .name) .epoch)
-          (same-eq (at t p .name) noName (ap (λ q. at t q .name) z ∙ sound .rootName))
+          (ap (λ x. same x noName) (ap (λ q. at t q .name) z ∙ sound .rootName) ∙ same-refl noName)
           ∙ sym (ap (epochAt t) z ∙ sound .rootEpoch)
       epochs p h (no z) =
           let pos : 0 < p = omega arith in
@@ -155,7 +154,7 @@ module _ (n : ℕ) (honest : ℕ → Bool) (run : Run) (pr : Premises n honest r
     where
       started : Logged [] (fresh n i)
       started = subst (Sane 0 [] 1 0 0) (sym (fresh-epoch n i (pr .some) (pr .most) (hi .0))) sane-start
-  recorded (suc m) i hi = go (recorded m i hi) (went n run m i)
+  recorded (suc m) i hi = go (recorded m i hi) (next n i (pr .some) (pr .most) (hi .0) run m)
     where
       s : State
       s = stateAt n run m i
@@ -165,9 +164,6 @@ module _ (n : ℕ) (honest : ℕ → Bool) (run : Run) (pr : Premises n honest r
 
       r : List ℕ
       r = eventAt run m .bytes
-
-      o : List ℕ
-      o = eventAt run m .buffer
 
       told : (w : Recorded m i) → stateAt n run (suc m) i ≡ settled (effect s r) → Spoke (w .log) s r (effect s r) → Recorded (suc m) i
       told w e (silent k l) =
@@ -181,27 +177,21 @@ module _ (n : ℕ) (honest : ℕ → Bool) (run : Run) (pr : Premises n honest r
                   | yes h ↦ List·Memᴰ·tail (w .all x (cast-later (suc m) m c h))
                   | no h ↦
                       let z : c .event ≡ m = omega (arith, c .before) in
-                      List·Memᴰ·head (sym (ap voteFor (name-at c z (healthy m i hi) pos within)) ∙ book-vote m i hi (picked s) pos within)
+                      List·Memᴰ·head (sym (ap voteFor (name-at c z (healthy m i hi .proper))) ∙ book-vote m i hi (picked s) pos within)
                 ];
           }
 
-      go : Recorded m i → Went n run m i → Recorded (suc m) i
-      go w (idle h e) =
-          quiet m i (λ x c z. h (subst (λ k. k < length run) z (c .happened)) (its-at c z)) w (subst (Logged (w .log)) (sym e) (w .fits))
-      go w (called h its e) = answered (stepped s r o (healthy m i hi .sound .some))
-        where
-          answered : Stepped s r o → Recorded (suc m) i
-          answered (refused k same-state) =
-              quiet m i (λ x c z. not-both (taken-at c z) k) w
-              (subst (Logged (w .log)) (sym (e ∙ same-state)) (w .fits))
-          answered (took k p d next-state) = told w (e ∙ next-state) (did-spoke (healthy m i hi) (w .fits) d)
+      go : Recorded m i → Next n run m i → Recorded (suc m) i
+      go w (stayed not-taken e) =
+          quiet m i (λ x c z. not-both (taken-at c z) (not-taken (happened-at c z) (its-at c z))) w (subst (Logged (w .log)) (sym e) (w .fits))
+      go w (moved v) = told w (v .later) (did-spoke (healthy m i hi .proper) (w .fits) (v .did))
 
   -- a notarized name's voters are a quorum of the n
   enough-voters : {x : List ℕ} (w : Notarized x)
       → quorum n ≤ count n (λ j. hasVoter (at (tableAt n run (w .moment) (w .by)) (w .place)) j)
   unfolding votes
   enough-voters w =
-      subst (λ k. quorum n ≤ k) (count-cut mostNodes n (λ j. hasVoter b j) (pr .most) (λ j l _. others j l))
+      subst (λ k. quorum n ≤ k) (count-cut mostNodes n (λ j. hasVoter b j) (pr .most) others)
       (notarized-votes n t (w .place) (w .held .0) (w .enough))
     where
       t : List Block
@@ -210,10 +200,8 @@ module _ (n : ℕ) (honest : ℕ → Bool) (run : Run) (pr : Premises n honest r
       b : Block
       b = at t (w .place)
 
-      others : (j : ℕ) → n ≤ j → hasVoter b j ≡ false
-      others j l =
-          fails (hasVoter b j)
-          (λ v. omega (arith, table-sound (w .moment) (w .by) (w .honestly) .row (w .place) (w .held .0) (w .held .1) .voters j v))
+      others : (j : ℕ) → n ≤ j → j < mostNodes → hasVoter b j ≡ false
+      others = block-voter n t (w .place) (table-sound (w .moment) (w .by) (w .honestly) .block (w .place) (w .held .0) (w .held .1))
 
   -- a voter that an honest table shows had cast the vote
   voted : {x : List ℕ} (w : Notarized x) (j : ℕ) → Honest n honest j

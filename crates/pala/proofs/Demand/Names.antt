@@ -13,8 +13,8 @@ use Rattle.table.specs.Rows.{size, at}
 use Rattle.pala.specs.Counts.{noName}
 use Rattle.pala.specs.Rules.{epochAt, parentOf, line, among, notarized, firm, descends}
 use Rattle.pala.proofs.Demand.Chains as Chains
+use Rattle.pala.proofs.Places.{parent-below}
 use Rattle.pala.proofs.Demand.Chains.{On, here, up, Chain, none, more, Firm, decreed, next, normal-final}
-use Rattle.pala.proofs.Demand.Tables.{parent-below}
 use Rattle.pala.proofs.Demand.Ancestors.{climb, line-zero, line-up, on-self, on-up, on-lower, firm-own, firm-parent}
 use Rattle.pala.proofs.Demand.Freshest.{Kept}
 use Rattle.pala.proofs.Demand.Sound.{Sound, parent-earlier, one-place}

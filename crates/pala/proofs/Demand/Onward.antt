@@ -1,32 +1,29 @@
 -- A gateway never takes a final block back: what it shows at a moment begins what it shows later. Assumes nothing.
-use Prim.Native.Nat.{ℕ, zero, suc, _≤_, _<_}
+use Prim.Native.Nat.{ℕ, _≤_, _<_}
 use mathlib.Core.Bool.{true}
 use mathlib.Core.List.{List, [], _∷_, _++_, append-nil, append-assoc}
 use mathlib.Core.Logic.{_⊎_, inl, inr}
 use mathlib.Core.Path.{_≡_, sym, ap, subst, subst₂, _∙_}
-use native.Mathlib.Decide.{decLt}
 use native.Mathlib.Omega.{arith}
 use Rattle.table.specs.declared.Block.{Block}
 use Rattle.table.specs.declared.State.{State}
 use Rattle.table.specs.Rows.{mostNodes, rows, size, at}
-use Rattle.pala.specs.Effects.{effect}
 use Rattle.pala.specs.Rules.{parentOf, line, among, candidate, descends}
-use Rattle.pala.specs.Step.{step}
+use Rattle.pala.specs.Step.{room}
 use Rattle.pala.specs.Steps.{settled, newKept, forward}
-use Rattle.pala.specs.Safety.{Run, eventAt, stateAt, tableAt, shownAt, Begins}
+use Rattle.pala.specs.Safety.{Run, stateAt, tableAt, shownAt, Begins}
 use Rattle.table.proofs.Laws.{pick-case}
-use Rattle.pala.proofs.Demand.Tables.{Grown, parent-below, grown-parent}
+use Rattle.pala.proofs.Grown.{Grown, grown-parent}
+use Rattle.pala.proofs.Places.{parent-below}
+use Rattle.pala.proofs.Moves.{Did}
+use Rattle.pala.proofs.Keeps.{some-rows}
+use Rattle.pala.proofs.Demand.Chains.{Goes}
 use Rattle.pala.proofs.Demand.Ancestors.{climb, on-zero, on-cases}
 use Rattle.pala.proofs.Demand.Freshest.{kept-in}
-use Rattle.pala.proofs.Demand.Moves.{Stepped, refused, took, stepped}
 use Rattle.pala.proofs.Demand.Healthy.{Healthy, did-grown, did-same}
 use Rattle.pala.proofs.Demand.Names.{namesTo, names-zero, names-up}
-use Rattle.pala.proofs.Demand.Runs.{Went, idle, called, went, reached}
+use Rattle.pala.proofs.Demand.Runs.{reached, from-to}
 use Rattle.pala.proofs.Demand.Safety.{joined-begins, shown-names}
-
--- the names to b go on from those to a
-abbrev Goes : List (List ℕ) → List (List ℕ) → Type 0
-Goes a b = (rest : List (List ℕ)) × (b ≡ a ++ rest)
 
 goes-same : (a : List (List ℕ)) → Goes a a
 goes-same a = ([], sym (append-nil a))
@@ -72,37 +69,17 @@ settled-goes u =
     pick-case (λ k. Goes (finals u) (namesTo (rows u) k)) (forward u) (candidate (u .n) (rows u)) (u .kept .0)
     (λ e. names-go (rows u) (candidate (u .n) (rows u)) (u .kept .0) e) (λ _. goes-same (finals u))
 
-step-goes : (s : State) (r out : List ℕ) → Healthy s → Goes (finals s) (finals (step s r out .state))
-step-goes s r out h = go (stepped s r out (h .sound .some))
-  where
-    go : Stepped s r out → Goes (finals s) (finals (step s r out .state))
-    go (refused k e) = subst (λ x. Goes (finals s) (finals x)) (sym e) (goes-same (finals s))
-    go (took k p d e) =
-        subst (λ x. Goes (finals s) (finals x)) (sym e)
-        (subst (λ l. Goes l (finals (settled u))) same (settled-goes u))
-      where
-        u : State
-        u = effect s r
-
-        same : finals u ≡ finals s
-        same = ap (namesTo (rows u)) (did-same d .3) ∙ grown-names (did-grown h d) (s .kept .0) (kept-in (h .sound .some) (h .kept))
+-- a taken record leaves the final names alone, and then the five steps go on from them
+did-goes : {s : State} {r : List ℕ} {u : State} → Healthy s → Did room s r u → Goes (finals s) (finals (settled u))
+did-goes {s} {u = u} h d =
+    subst (λ l. Goes l (finals (settled u))) (ap (namesTo (rows u)) (did-same d .3) ∙ grown-names (did-grown (h .proper) d) (s .kept .0) (kept-in (some-rows (h .proper)) (h .kept)))
+    (settled-goes u)
 
 module _ (n i : ℕ) (some : 1 ≤ n) (most : n ≤ mostNodes) (below : i < n) (run : Run) where
   goes-on : (a b : ℕ) → a ≤ b → Goes (finals (stateAt n run a i)) (finals (stateAt n run b i))
-  goes-on a zero h = let e : a ≡ 0 = omega arith in rw e (goes-same (finals (stateAt n run 0 i)))
-  goes-on a (suc b) h =
-      elim (decLt b a) [
-        | yes l ↦ let e : a ≡ suc b = omega arith in rw e (goes-same (finals (stateAt n run (suc b) i)))
-        | no l ↦
-            goes-then (finals (stateAt n run a i)) (finals (stateAt n run b i)) (finals (stateAt n run (suc b) i))
-            (goes-on a b (omega arith)) (go (went n run b i))
-      ]
-    where
-      go : Went n run b i → Goes (finals (stateAt n run b i)) (finals (stateAt n run (suc b) i))
-      go (idle _ e) = subst (λ x. Goes (finals (stateAt n run b i)) (finals x)) (sym e) (goes-same (finals (stateAt n run b i)))
-      go (called _ _ e) =
-          subst (λ x. Goes (finals (stateAt n run b i)) (finals x)) (sym e)
-          (step-goes (stateAt n run b i) (eventAt run b .bytes) (eventAt run b .buffer) (reached n i some most below run b))
+  goes-on =
+      from-to n i some most below run (λ s u. Goes (finals s) (finals u)) (λ s. goes-same (finals s))
+      (λ s t u. goes-then (finals s) (finals t) (finals u)) (λ m w. did-goes (reached n i some most below run m) (w .did))
 
   -- what is shown stays shown
   pub never-back : (a b : ℕ) → a ≤ b → Begins (shownAt n run a i) (shownAt n run b i)

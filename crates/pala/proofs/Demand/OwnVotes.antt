@@ -1,35 +1,32 @@
 -- A gateway's own table shows its own vote exactly where it cast it, whatever others send. Assumes nothing.
 use Prim.Native.Nat.{ℕ, zero, suc, _≤_, _<_}
-use mathlib.Core.Bool.{true, false}
+use mathlib.Core.Bool.{true}
 use mathlib.Core.List.{List}
 use mathlib.Core.Logic.{_↔_}
-use mathlib.Core.Path.{_≡_, refl, sym, ap, subst, _∙_}
+use mathlib.Core.Path.{_≡_, refl, sym, ap, subst, subst₂, _∙_}
 use native.Mathlib.Decide.{decLt}
 use native.Mathlib.Omega.{arith}
-use lib.ListN.{length, getD, set}
-use lib.Seq.{getD-set-same}
 use Rattle.table.specs.declared.Block.{Block}
 use Rattle.table.specs.declared.State.{State}
-use Rattle.table.specs.Rows.{mostNodes, rows, size, at, hasVoter, withVoter}
-use Rattle.pala.specs.Answers.{taken}
-use Rattle.pala.specs.Effects.{picked, effect}
+use Rattle.table.specs.Rows.{mostNodes, rows, at, hasVoter, withVoter}
+use Rattle.pala.specs.Effects.{picked}
 use Rattle.pala.specs.Record.{is, voteHeard, castNow}
-use Rattle.pala.specs.Step.{step}
-use Rattle.pala.specs.Safety.{Run, eventAt, stateAt, tableAt, Cast, Held}
+use Rattle.pala.specs.Step.{room}
+use Rattle.pala.specs.Safety.{Run, stateAt, tableAt, Cast, Held}
 use Rattle.table.proofs.Laws.{not-both}
-use Rattle.pala.proofs.Demand.Tables.{Grown, at-set-same}
-use Rattle.pala.proofs.Demand.Sound.{one-place}
-use Rattle.pala.proofs.Demand.States.{rows-vote, rows-settled}
-use Rattle.pala.proofs.Demand.Moves.{Did, added, counted, cast, clocked, other-kind, block-no-cast, Stepped, refused, took, stepped}
-use Rattle.pala.proofs.Demand.Healthy.{Healthy, inside, held, did-grown}
-use Rattle.pala.proofs.Demand.Runs.{Went, idle, called, went, starts, fresh-none, reached, reached-same, tables-grow}
-use Rattle.pala.proofs.Demand.Voting.{votable-parts}
-use Rattle.pala.proofs.Demand.Changes.{Voter, old, heardOf, itsOwn, new-voter}
-use Rattle.pala.proofs.Demand.Casts.{cast-later, kind-at, its-at, taken-at, name-at, own-cast}
+use Rattle.pala.proofs.Grown.{Grown, at-set-same, voter-in, rows-settled}
+use Rattle.pala.proofs.Places.{votable-parts}
+use Rattle.pala.proofs.Moves.{Did, added, counted, cast, clocked, other-kind, block-no-cast}
+use Rattle.pala.proofs.Keeps.{Proper}
+use Rattle.pala.proofs.Sent.{at-sized}
+use Rattle.pala.proofs.Demand.Sound.{shaped-sound, one-place}
+use Rattle.pala.proofs.Demand.Healthy.{after-vote, did-grown}
+use Rattle.pala.proofs.Demand.Runs.{effectAt, fresh-none, Moved, Next, stayed, moved, next, reached, at-moments, reached-same, tables-grow}
+use Rattle.pala.proofs.Demand.Casts.{cast-later, cast-next, kind-at, happened-at, its-at, taken-at, name-at, voter-cast}
 
 module _ (n i : ℕ) (some : 1 ≤ n) (most : n ≤ mostNodes) (below : i < n) (run : Run) where
-  healthy : (m : ℕ) → Healthy (stateAt n run m i)
-  healthy m = reached n i some most below run m
+  proper : (m : ℕ) → Proper (stateAt n run m i)
+  proper m = reached n i some most below run m .proper
 
   own : (m : ℕ) → stateAt n run m i .own .0 ≡ i
   own m = reached-same n i some most below run m .1
@@ -38,52 +35,14 @@ module _ (n i : ℕ) (some : 1 ≤ n) (most : n ≤ mostNodes) (below : i < n) (
   Good : ℕ → List Block → Type 0
   Good m t = (p : ℕ) → Held t p → hasVoter (at t p) i ≡ true → Cast n run m i (at t p .name)
 
-  good-took : (m : ℕ) → m < length run → eventAt run m .to ≡ i
-      → taken (step (stateAt n run m i) (eventAt run m .bytes) (eventAt run m .buffer) .answer) ≡ true
-      → (u : State) → Did (stateAt n run m i) (eventAt run m .bytes) u → Good m (rows (stateAt n run m i)) → Good (suc m) (rows u)
+  good-took : (m : ℕ) → Moved n run m i → Good m (rows (stateAt n run m i)) → Good (suc m) (rows (effectAt n run m i))
   unfolding Good
-  good-took m happened its k u d g p h v = go (new-voter (healthy m) d p i (h .1) v)
-    where
-      s : State
-      s = stateAt n run m i
-
-      grown : Grown (rows s) (rows u)
-      grown = did-grown (healthy m) d
-
-      go : Voter s (eventAt run m .bytes) p i → Cast n run (suc m) i (at (rows u) p .name)
-      go (old l w) =
-          let c = g p (h .0, l) w in
-          subst (Cast n run (suc m) i) (sym (grown .name p l)) (cast-later m (suc m) c (omega (arith, c .before)))
-      go (heardOf _ e other l name) = absurd (other (sym e ∙ sym (own m)))
-      go (itsOwn kind e z l) =
-          subst (Cast n run (suc m) i) (sym (grown .name p l ∙ ap (λ q. at (rows s) q .name) z))
-          (own-cast n run m i happened its (healthy m) (own m) kind k (subst (λ q. 0 < q) z (h .0)) (subst (λ q. q < size (rows s)) z l))
+  good-took m w g p h =
+      voter-cast (proper m) (own m) w p i (λ l v. g p (h .0, l) v) (λ _ _ other. absurd (other refl)) (h .1)
 
   good : (m : ℕ) → Good m (tableAt n run m i)
-  unfolding Good tableAt
-  good zero = subst (λ x. Good 0 (rows x)) (sym (starts n i some most below run)) (λ p h v. absurd (fresh-none n i p h))
-  good (suc m) = go (good m) (went n run m i)
-    where
-      s : State
-      s = stateAt n run m i
-
-      r : List ℕ
-      r = eventAt run m .bytes
-
-      o : List ℕ
-      o = eventAt run m .buffer
-
-      later : Good m (rows s) → Good (suc m) (rows s)
-      later g p h v = let c = g p h v in cast-later m (suc m) c (omega (arith, c .before))
-
-      go : Good m (rows s) → Went n run m i → Good (suc m) (rows (stateAt n run (suc m) i))
-      go g (idle _ e) = subst (λ x. Good (suc m) (rows x)) (sym e) (later g)
-      go g (called happened its e) = answered (stepped s r o (healthy m .sound .some))
-        where
-          answered : Stepped s r o → Good (suc m) (rows (stateAt n run (suc m) i))
-          answered (refused k same) = subst (λ x. Good (suc m) (rows x)) (sym (e ∙ same)) (later g)
-          answered (took k p d next) =
-              subst (Good (suc m)) (sym (ap rows (e ∙ next) ∙ rows-settled (effect s r))) (good-took m happened its k (effect s r) d g)
+  unfolding Good
+  good = at-moments n i some most below run Good (λ p h v. absurd (fresh-none n i p h)) (λ m t g p h v. cast-next m (g p h v)) good-took
 
   -- a vote cast is shown
   record ShownIn (t : List Block) (x : List ℕ) : Type 0 where
@@ -102,27 +61,22 @@ module _ (n i : ℕ) (some : 1 ≤ n) (most : n ≤ mostNodes) (below : i < n) (
       }
 
   -- a taken kind 5 shows its vote at the place picked
-  did-shown : (m : ℕ) {r : List ℕ} {u : State} → Did (stateAt n run m i) r u → is castNow r ≡ true
-      → (0 < picked (stateAt n run m i)) × (picked (stateAt n run m i) < size (rows (stateAt n run m i)))
-      × ShownIn (rows u) (at (rows (stateAt n run m i)) (picked (stateAt n run m i)) .name)
-  unfolding withVoter hasVoter
+  did-shown : (m : ℕ) {r : List ℕ} {u : State} → Did room (stateAt n run m i) r u → is castNow r ≡ true
+      → ShownIn (rows u) (at (rows (stateAt n run m i)) (picked (stateAt n run m i)) .name)
   did-shown m {r} (added b proposed k w l e) c = absurd (not-both c (block-no-cast r k))
   did-shown m {r} (counted k q l v other e) c = absurd (not-both c (other-kind r voteHeard castNow k refl))
-  did-shown m {r} (clocked j x k2 k5 e) c = absurd (not-both c k5)
-  did-shown m {r} {u} (cast k l v e) c = (
-    pos,
-    l,
-    record {
-      place = q;
-      held-there = (pos, omega (arith, l, grown .longer));
-      named = grown .name q l;
-      counted-there =
-          ap (λ x. hasVoter (at x q) i) (ap rows e ∙ rows-vote s q (s .own .0) (s .local .0) (held (healthy m) q l) (inside (healthy m)))
-          ∙ ap (λ (b : Block). hasVoter b i) (at-set-same t q (withVoter (at t q) (s .own .0)) l)
-          ∙ ap (λ j. getD (set (at t q .voters) j true) i false) (own m)
-          ∙ getD-set-same (at t q .voters) i true false (omega (arith, healthy m .sound .row q pos l .marks));
-    },
-  )
+  did-shown m {r} (clocked j x k2 k5 low e) c = absurd (not-both c k5)
+  did-shown m {r} {u} (cast k l v e) c =
+      record {
+        place = q;
+        held-there = (votable-parts _ _ _ _ _ _ v .above, omega (arith, l, grown .longer));
+        named = grown .name q l;
+        counted-there =
+            ap (λ x. hasVoter (at x q) i) (after-vote (proper m) q (s .own .0) (s .local .0) l e)
+            ∙ ap (λ (b : Block). hasVoter b i) (at-set-same t q (withVoter (at t q) (s .own .0)) l)
+            ∙ ap (λ j. hasVoter (withVoter (at t q) j) i) (own m)
+            ∙ voter-in (at t q) i (omega (arith, at-sized s (proper m) q .voters));
+      }
     where
       s : State
       s = stateAt n run m i
@@ -133,35 +87,17 @@ module _ (n i : ℕ) (some : 1 ≤ n) (most : n ≤ mostNodes) (below : i < n) (
       q : ℕ
       q = picked s
 
-      pos : 0 < q
-      pos = votable-parts (s .n) t (s .local .0) (s .bar .0) (s .voted .0) q v .above
-
       grown : Grown t (rows u)
-      grown = did-grown (healthy m) {r = r} (cast k l v e)
+      grown = did-grown (proper m) {r = r} (cast k l v e)
 
   cast-now : (m : ℕ) (x : List ℕ) (c : Cast n run (suc m) i x) → c .event ≡ m → ShownIn (tableAt n run (suc m) i) x
   unfolding tableAt
-  cast-now m x c z = go (went n run m i)
+  cast-now m x c z = go (next n i some most below run m)
     where
-      s : State
-      s = stateAt n run m i
-
-      r : List ℕ
-      r = eventAt run m .bytes
-
-      o : List ℕ
-      o = eventAt run m .buffer
-
-      go : Went n run m i → ShownIn (rows (stateAt n run (suc m) i)) x
-      go (idle h e) = absurd (h (subst (λ k. k < length run) z (c .happened)) (its-at c z))
-      go (called happened its e) = answered (stepped s r o (healthy m .sound .some))
-        where
-          answered : Stepped s r o → ShownIn (rows (stateAt n run (suc m) i)) x
-          answered (refused k same) = absurd (not-both (taken-at c z) k)
-          answered (took k p d next) =
-              let (pos, within, w) = did-shown m d (kind-at c z) in
-              subst (λ t. ShownIn t x) (sym (ap rows (e ∙ next) ∙ rows-settled (effect s r)))
-              (subst (ShownIn (rows (effect s r))) (name-at c z (healthy m) pos within) w)
+      go : Next n run m i → ShownIn (rows (stateAt n run (suc m) i)) x
+      go (stayed not-taken e) = absurd (not-both (taken-at c z) (not-taken (happened-at c z) (its-at c z)))
+      go (moved w) =
+          subst₂ ShownIn (sym (ap rows (w .later) ∙ rows-settled (effectAt n run m i))) (name-at c z (proper m)) (did-shown m (w .did) (kind-at c z))
 
   cast-shown : (m : ℕ) (x : List ℕ) (c : Cast n run m i x) → ShownIn (tableAt n run m i) x
   cast-shown zero x c = absurd (omega (arith, c .before))
@@ -182,5 +118,5 @@ module _ (n i : ℕ) (some : 1 ≤ n) (most : n ≤ mostNodes) (below : i < n) (
 
       shows : ShownIn t (at t p .name) → hasVoter (at t p) i ≡ true
       shows w =
-          let z : w .place ≡ p = one-place (healthy m .sound) (w .place) p (w .held-there .1) (h .1) (w .named) in
+          let z : w .place ≡ p = one-place (shaped-sound (stateAt n run m i) (proper m)) (w .place) p (w .held-there .1) (h .1) (w .named) in
           subst (λ q. hasVoter (at t q) i ≡ true) z (w .counted-there)

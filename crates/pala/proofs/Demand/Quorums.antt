@@ -6,6 +6,8 @@ use native.Mathlib.Decide.{decLe, decLt}
 use native.Mathlib.Omega.{arith}
 use Rattle.table.specs.Scan.{pick, count}
 use Rattle.pala.specs.Counts.{quorum}
+use Rattle.pala.proofs.Counts.{quorum-enough}
+use Rattle.pala.proofs.Tests.{and-l, and-r}
 
 -- a number counts at most one
 one : (a : Bool) → pick a 1 0 ≤ 1
@@ -18,12 +20,6 @@ passes : (a : Bool) → 0 < pick a 1 0 → a ≡ true
 unfolding pick
 passes true h = refl
 passes false h = absurd (omega arith)
-
--- no more numbers below k pass than there are
-pub count-le : (k : ℕ) (ok : ℕ → Bool) → count k ok ≤ k
-unfolding count
-count-le zero ok = omega arith
-count-le (suc k) ok = omega (arith, count-le k ok, one (ok k))
 
 -- a positive count has a number that passes
 pub witness : (k : ℕ) (ok : ℕ → Bool) → 0 < count k ok → (i : ℕ) × (i < k) × (ok i ≡ true)
@@ -68,18 +64,11 @@ shared (suc k) f g h = omega (arith, shared k f g h, step (f k) (g k) (h k))
     step true false c = omega arith
     step false b c = omega (arith, one b)
 
--- three tests that all hold
-all-true : (a b c : Bool) → (a && b && c) ≡ true → (a ≡ true) × (b ≡ true) × (c ≡ true)
-all-true true true c e = (refl, refl, e)
-all-true true false c e = (refl, e, cc)
-all-true false b c e = (e, cc, cc)
-
 -- two sets of a quorum each share an honest number
 pub overlap : (n : ℕ) (f g h : ℕ → Bool)
     → quorum n ≤ count n f → quorum n ≤ count n g → 3 * count n (λ i. not (h i)) < n
     → (i : ℕ) × (i < n) × (f i ≡ true) × (g i ≡ true) × (h i ≡ true)
-unfolding quorum
 overlap n f g h qf qg few =
-    let (i, below, e) = witness n (λ i. f i && g i && h i) (omega (arith, shared n f g h)) in
-    let (x, y, z) = all-true (f i) (g i) (h i) e in
-    (i, below, x, y, z)
+    let (i, below, e) = witness n (λ i. f i && g i && h i) (omega (arith, shared n f g h, quorum-enough n)) in
+    let both = and-l (f i && g i) (h i) e in
+    (i, below, and-l (f i) (g i) both, and-r (f i) (g i) both, and-r (f i && g i) (h i) e)

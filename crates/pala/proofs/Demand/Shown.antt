@@ -1,6 +1,6 @@
 -- Demand 3 for the bytes written: by the final-list function, and by two runs of the firmware. Assumes nothing.
 use Prim.Native.Nat.{ℕ, suc, _+_, _*_, _%_, _≤_, _<_, zero-le, suc-le-suc}
-use mathlib.Core.Bool.{Bool, true, false, not, _&&_}
+use mathlib.Core.Bool.{Bool, true, false}
 use mathlib.Core.List.{List, [], _∷_, _++_}
 use mathlib.Core.Logic.{_⊎_, inl, inr}
 use mathlib.Core.Path.{_≡_, refl, sym, ap, subst, subst₂, _∙_}
@@ -13,23 +13,22 @@ use Rattle.table.specs.declared.Answer.{Answer}
 use Rattle.table.specs.declared.Block.{Block}
 use Rattle.table.specs.declared.State.{State}
 use Rattle.table.specs.Scan.{pick}
-use Rattle.table.specs.Rows.{capacity, nameBytes, rows, size, at}
-use Rattle.pala.specs.Answers.{number, taken, lowestOf, badLength, shapedRows, allRows}
+use Rattle.table.specs.Rows.{capacity, nameBytes, rows, at}
+use Rattle.pala.specs.Answers.{number, taken}
 use Rattle.pala.specs.Record.{recordBytes}
-use Rattle.pala.specs.Effects.{effect}
 use Rattle.pala.specs.Lists.{joined, finalNames, finalList, listed, listAnswer}
 use Rattle.pala.specs.Rules.{parentOf}
 use Rattle.pala.specs.Run.{stretches, lent, played, ran, run, runAnswer, runCode}
-use Rattle.pala.specs.Shape.{wellShaped}
-use Rattle.pala.specs.Step.{step, start, outcome, room}
-use Rattle.pala.specs.Steps.{settled}
+use Rattle.pala.specs.Step.{step, start}
 use Rattle.pala.specs.Safety.{Event, Run, eventAt, after, follow, stateAt, shownAt, OneBegins}
 use Rattle.pala.specs.Shown.{written, SafeLists, recordsOf, PlayedBy, ranWritten, SafeRuns}
-use Rattle.pala.proofs.Demand.Tables.{parent-below}
+use Rattle.pala.proofs.Shapes.{shaped-count, shaped-kept}
+use Rattle.pala.proofs.Sized.{RowSized}
+use Rattle.pala.proofs.Places.{parent-below}
+use Rattle.pala.proofs.Keeps.{Proper}
+use Rattle.pala.proofs.Sent.{at-sized}
+use Rattle.pala.proofs.Calls.{any-lent}
 use Rattle.pala.proofs.Demand.Ancestors.{climb}
-use Rattle.pala.proofs.Demand.Freshest.{kept-in}
-use Rattle.pala.proofs.Demand.Sound.{Sound}
-use Rattle.pala.proofs.Demand.Healthy.{Healthy, healthy-size}
 use Rattle.pala.proofs.Demand.Runs.{reached}
 use Rattle.pala.proofs.Demand.Names.{namesTo, names-zero, names-up}
 use Rattle.pala.proofs.Demand.Safety.{joined-append, safe}
@@ -47,17 +46,17 @@ names-few t = climb t (λ p. length (namesTo t p) ≤ p) (omega (arith, ap lengt
           parent-below t p pos,
         )
 
-pub names-long : {n : ℕ} {t : List Block} → Sound n t → (p : ℕ) → p < size t → length (joined (namesTo t p)) ≡ nameBytes * length (namesTo t p)
+pub names-long : (t : List Block) → ((p : ℕ) → RowSized (at t p)) → (p : ℕ) → length (joined (namesTo t p)) ≡ nameBytes * length (namesTo t p)
 unfolding joined
-names-long {n} {t} s = climb t (λ p. p < size t → length (joined (namesTo t p)) ≡ nameBytes * length (namesTo t p)) base step
+names-long t sized = climb t (λ p. length (joined (namesTo t p)) ≡ nameBytes * length (namesTo t p)) base step
   where
-    base : 0 < size t → length (joined (namesTo t 0)) ≡ nameBytes * length (namesTo t 0)
-    base _ = ap (λ l. length (joined l)) (names-zero t) ∙ sym (ap (λ l. nameBytes * length l) (names-zero t))
+    base : length (joined (namesTo t 0)) ≡ nameBytes * length (namesTo t 0)
+    base = ap (λ l. length (joined l)) (names-zero t) ∙ sym (ap (λ l. nameBytes * length l) (names-zero t))
 
     step : (p : ℕ) → 0 < p
-        → (parentOf t p < size t → length (joined (namesTo t (parentOf t p))) ≡ nameBytes * length (namesTo t (parentOf t p)))
-        → p < size t → length (joined (namesTo t p)) ≡ nameBytes * length (namesTo t p)
-    step p pos ih h =
+        → length (joined (namesTo t (parentOf t p))) ≡ nameBytes * length (namesTo t (parentOf t p))
+        → length (joined (namesTo t p)) ≡ nameBytes * length (namesTo t p)
+    step p pos ih =
         omega (
           arith,
           ap length (names-up t p pos),
@@ -66,8 +65,8 @@ names-long {n} {t} s = climb t (λ p. p < size t → length (joined (namesTo t p
           ap length (joined-append up (at t p .name ∷ [])),
           length-append (joined up) (at t p .name ++ []),
           length-append (at t p .name) [],
-          s .row p pos h .long,
-          ih (omega (arith, parent-below t p pos)),
+          sized p .name,
+          ih,
         )
       where
         up : List (List ℕ)
@@ -86,16 +85,16 @@ unfolding finalNames namesTo
 finals-are s = refl
 
 -- what the final-list function writes: the final names, or nothing
-written-is : (s : State) → Healthy s → (x : List ℕ) → (written (finalList s x) ≡ joined (finalNames s)) ⊎ (written (finalList s x) ≡ [])
+written-is : (s : State) → Proper s → (x : List ℕ) → (written (finalList s x) ≡ joined (finalNames s)) ⊎ (written (finalList s x) ≡ [])
 unfolding finalList listed
-written-is s h x =
+written-is s k x =
     cut (taken (listAnswer s x)) (finalNames s) (drop (nameBytes * length (finalNames s)) x) x
     (subst (λ l. length (joined l) ≡ nameBytes * length l) (sym (finals-are s))
-    (names-long (h .sound) (s .kept .0) (kept-in (h .sound .some) (h .kept))))
+    (names-long (rows s) (at-sized s k) (s .kept .0)))
 
-counted-few : (s : State) → Healthy s → (x : List ℕ) → finalList s x .count ≤ capacity
+counted-few : (s : State) → Proper s → (x : List ℕ) → finalList s x .count ≤ capacity
 unfolding finalList listed pick
-counted-few s h x = go (taken (listAnswer s x))
+counted-few s k x = go (taken (listAnswer s x))
   where
     go : (b : Bool) → pick b (length (finalNames s)) 0 ≤ capacity
     go true =
@@ -103,9 +102,8 @@ counted-few s h x = go (taken (listAnswer s x))
           arith,
           ap length (finals-are s),
           names-few (rows s) (s .kept .0),
-          kept-in (h .sound .some) (h .kept),
-          healthy-size h,
-          h .room,
+          shaped-kept s (k .shaped),
+          shaped-count s (k .shaped),
         )
     go false = omega arith
 
@@ -119,18 +117,8 @@ pub safe-lists : SafeLists
 unfolding shownAt
 safe-lists n honest run pr i j a b hi hj x y =
     or-empty (safe n honest run pr i j a b hi hj)
-    (written-is (stateAt n run a i) (reached n i (pr .some) (pr .most) (hi .0) run a) x)
-    (written-is (stateAt n run b j) (reached n j (pr .some) (pr .most) (hj .0) run b) y)
-
--- a state depends on the out buffer by its length alone
-step-lent : (s : State) (r out : List ℕ) → length out ≡ recordBytes → step s r out .state ≡ step s r lent .state
-unfolding step outcome allRows badLength lent
-step-lent s r out e =
-    ap (λ b. pick (taken (pick (not (wellShaped s)) Answer.State (pick (s .torn) Answer.Torn (pick b Answer.Length rest)))) (settled (effect s r)) s)
-    (ap (λ k. not (eqb (length r) recordBytes && eqb k recordBytes)) e)
-  where
-    rest : Answer
-    rest = lowestOf (drop 2 (shapedRows room s r []))
+    (written-is (stateAt n run a i) (reached n i (pr .some) (pr .most) (hi .0) run a .proper) x)
+    (written-is (stateAt n run b j) (reached n j (pr .some) (pr .most) (hj .0) run b .proper) y)
 
 -- the records of gateway i played one after the other bring it where the run does
 follow-played : (i : ℕ) (events : Run) → ((k : ℕ) → k < length events → eventAt events k .to ≡ i → length (eventAt events k .buffer) ≡ recordBytes)
@@ -143,7 +131,7 @@ follow-played i (e ∷ more) h s = go (eqb (e .to) i) refl (follow-played i more
         → follow i (pick b (step s (e .bytes) (e .buffer) .state) s) more
         ≡ played s (elim b as (λ _. List (List ℕ)) [ true ↦ e .bytes ∷ recordsOf i more | false ↦ recordsOf i more ])
     go true k ih =
-        ap (λ u. follow i u more) (step-lent s (e .bytes) (e .buffer) (h 0 (suc-le-suc zero-le) (eqb-true (e .to) i k)))
+        ap (λ u. follow i u more) (any-lent s (e .bytes) (e .buffer) (h 0 (suc-le-suc zero-le) (eqb-true (e .to) i k)))
         ∙ ih (step s (e .bytes) lent .state)
     go false k ih = ih s
 
@@ -174,13 +162,13 @@ code-written true k c l x names h w =
 code-written false k c l x names h w = inr (ap (λ m. take (nameBytes * m) x) (code-count k 0 (omega arith)))
 
 -- what a run writes: the final names of the state that its records lead to, or nothing
-ran-is : (n i : ℕ) (slice x : List ℕ) (s : State) → Healthy s → s ≡ played (start n i .state) (stretches slice)
+ran-is : (n i : ℕ) (slice x : List ℕ) (s : State) → Proper s → s ≡ played (start n i .state) (stretches slice)
     → (ranWritten (run n i slice x) ≡ joined (finalNames s)) ⊎ (ranWritten (run n i slice x) ≡ [])
 unfolding run ran runCode
-ran-is n i slice x s h e =
+ran-is n i slice x s k e =
     subst (λ u. (of u ≡ joined (finalNames s)) ⊎ (of u ≡ [])) e
     (code-written (taken a) (number a) (finalList s x .count) (finalList s x .list) x (joined (finalNames s))
-    (omega (arith, counted-few s h x)) (written-is s h x))
+    (omega (arith, counted-few s k x)) (written-is s k x))
   where
     a : Answer
     a = runAnswer n i slice x
@@ -193,5 +181,5 @@ pub safe-runs : SafeRuns
 unfolding shownAt
 safe-runs n honest events pr i j a b hi hj p q wp wq x y =
     or-empty (safe n honest events pr i j a b hi hj)
-    (ran-is n i p x (stateAt n events a i) (reached n i (pr .some) (pr .most) (hi .0) events a) (state-played n events a i p wp))
-    (ran-is n j q y (stateAt n events b j) (reached n j (pr .some) (pr .most) (hj .0) events b) (state-played n events b j q wq))
+    (ran-is n i p x (stateAt n events a i) (reached n i (pr .some) (pr .most) (hi .0) events a .proper) (state-played n events a i p wp))
+    (ran-is n j q y (stateAt n events b j) (reached n j (pr .some) (pr .most) (hj .0) events b .proper) (state-played n events b j q wq))
