@@ -9,6 +9,7 @@ use lines::pieces::play;
 use node::answers::is_taken;
 use node::start;
 use table::State;
+ghost use Prim.Native.Nat.{_≤_};
 
 // A piece of the recording: 512 records, and room for as many of the longest lines.
 const PIECE_BYTES: usize = 49152;
@@ -24,13 +25,24 @@ struct Going {
     more: bool,
 }
 
+// How much of the text to print: its length, which `play` promises to be within the buffer.
+fn within(length: usize) -> usize
+    ensures { λ r. ⌜ r ≤ 25088 ⌝ }
+{
+    if length < TEXT_BYTES {
+        length
+    } else {
+        TEXT_BYTES
+    }
+}
+
 // Reads a piece, plays it and prints its lines.
 fn play_some(s: State, before: u64) -> Going {
     let mut input = [0u8; PIECE_BYTES];
     let got = io::read_full(STDIN_FILENO, &mut input);
     let mut text = [0u8; TEXT_BYTES];
     let played = play(s, before, &input[..got], &mut text);
-    let length = io::count(played.length as isize, &text);
+    let length = within(played.length);
     let written = io::write_all(STDOUT_FILENO, &text[..length]);
     let state = played.state;
     Going {
@@ -58,24 +70,36 @@ fn play_all(s: State) -> u64 {
     before
 }
 
+// A byte among the numbers of 32 bits.
+fn wide(b: u8) -> u32 {
+    b as u32
+}
+
+// The first bytes of a line's buffer.
+fn print(line: [u8; LINE_BYTES], length: usize) {
+    if LINE_BYTES < length {
+        return;
+    }
+    io::write_all(STDOUT_FILENO, &line[..length]);
+}
+
 fn main() {
     let mut head = [0u8; 2];
     let got = io::read_full(STDIN_FILENO, &mut head);
-    let reply = start(head[0] as u32, head[1] as u32);
+    let reply = start(wide(head[0]), wide(head[1]));
     let answer = reply.answer;
     let mut line = [0u8; LINE_BYTES];
+    let setup = put_setup(&mut line);
     if got < 2 {
-        let length = put_setup(&mut line);
-        io::write_all(STDOUT_FILENO, &line[..length]);
+        print(line, setup);
         return;
     }
     if !is_taken(answer) {
-        let length = put_setup(&mut line);
-        io::write_all(STDOUT_FILENO, &line[..length]);
+        print(line, setup);
         return;
     }
     let s = reply.state;
     let count = play_all(s);
-    let length = put_end(count, &mut line);
-    io::write_all(STDOUT_FILENO, &line[..length]);
+    let end = put_end(count, &mut line);
+    print(line, end);
 }

@@ -1,42 +1,33 @@
+use native.Mathlib.Omega.{arith}
 use Rattle.replay.proofs.play_all.Statement.{statement}
 use Rattle.replay.proofs.play_all.Tie as tie
-use Rattle.replay.proofs.play_all.Reads as reads
-use Rattle.replay.proofs.play_all.Lts as lts
-use Rattle.replay.proofs.play_some.Reads as play-some-reads
 
 abbrev Inv-loop : tie.InvT-loop
-Inv-loop t₀ before₀ turns₀ t before turns = ?
+Inv-loop t₀ before₀ turns₀ t before turns = Unit {0}
 
 abbrev μ-loop : tie.MeasureT-loop
-μ-loop t₀ before₀ turns₀ t before turns = ?
+μ-loop t₀ before₀ turns₀ t before turns = turns
 
--- src/main.rt:48:5
 loop-holds : tie.Need-loop-holds Inv-loop μ-loop
-loop-holds c = ?
+loop-holds c = tt
 
--- src/main.rt:49:13
 play-some-requires : tie.Need-play-some-requires Inv-loop μ-loop
-play-some-requires c κs = ?
+play-some-requires c κs = tt
 
--- src/main.rt:56:9
 sub-turns : tie.Need-sub-turns Inv-loop μ-loop
-sub-turns c = ?
+sub-turns c = omega arith
 
--- src/main.rt:48:5
 loop-less : tie.Need-loop-less Inv-loop μ-loop
-loop-less c = ?
+loop-less c = omega arith
 
--- src/main.rt:48:5
 loop-again : tie.Need-loop-again Inv-loop μ-loop
-loop-again c = ?
+loop-again c = tt
 
--- src/main.rt:44:1
 returns : tie.Need-returns Inv-loop μ-loop
-returns c = ?
+returns c = tt
 
--- src/main.rt:44:1
 returns-2 : tie.Need-returns-2 Inv-loop μ-loop
-returns-2 c = ?
+returns-2 c = tt
 
 pub play-all-spec : {M : Type 1} → statement M
 play-all-spec =
