@@ -2,3 +2,4 @@ pub mod Laws
 pub mod Records
 pub mod Going
 pub mod Answered
+pub mod Determined

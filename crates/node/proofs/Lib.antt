@@ -7,3 +7,4 @@ pub mod Stores
 pub mod Grants
 pub mod Sends
 pub mod Calls
+pub mod Determined

@@ -1,4 +1,4 @@
--- Demand 3's premises in the form "at each record that an honest gateway takes ..", which a host can check as it goes.
+-- Demand 3's premises in the form "at each record that an honest gateway takes ..": what a program that holds all the states can check as it goes.
 use Prim.Native.Nat.{ℕ, _≤_, _<_}
 use mathlib.Core.Path.{_≡_}
 use mathlib.Core.Logic.{_⊎_}

@@ -1,0 +1,27 @@
+-- Each public function's promise, as its contract states it, admits one outcome: answer, state and every byte. Assumes nothing.
+use mathlib.Core.Path.{_≡_, ap}
+use Rattle.node.proofs.answers.number_of.Reads as number-of
+use Rattle.node.proofs.answers.is_taken.Reads as is-taken
+use Rattle.node.proofs.step.Reads as step
+use Rattle.node.proofs.step_shaped.Reads as step-shaped
+use Rattle.pala.specs.Step.{Outcome, Started}
+use Rattle.node.proofs.start.Reads as start
+use denote.Ref.{now}
+use Rattle.table.proofs.Laws.{one-outcome}
+
+number-of-one : (κs : _) (a : _) (r q : _) (s t : _) → number-of.Post κs a r s → number-of.Post κs a q t → r ≡ q
+number-of-one κs a r q s t = one-outcome
+
+is-taken-one : (κs : _) (a : _) (r q : _) (s t : _) → is-taken.Post κs a r s → is-taken.Post κs a q t → r ≡ q
+is-taken-one κs a r q s t = one-outcome
+
+step-one : (κs : _) (a : _) (r q : _) (s t : _) → step.Post κs a r s → step.Post κs a q t → (r ≡ q) × (now (s .1 .1 .0) ≡ now (t .1 .1 .0))
+step-one κs a r q s t p h =
+    (ap (λ (o : Outcome). record { answer = o .answer; state = o .state }) (one-outcome p h), ap (λ (o : Outcome). o .out) (one-outcome p h))
+
+step-shaped-one : (κs : _) (a : _) (r q : _) (s t : _) → step-shaped.Post κs a r s → step-shaped.Post κs a q t → (r ≡ q) × (now (s .1 .1 .0) ≡ now (t .1 .1 .0))
+step-shaped-one κs a r q s t p h =
+    (ap (λ (o : Outcome). record { answer = o .answer; state = o .state }) (one-outcome p h), ap (λ (o : Outcome). o .out) (one-outcome p h))
+
+start-one : (κs : _) (a : _) (r q : _) (s t : _) → start.Post κs a r s → start.Post κs a q t → r ≡ q
+start-one κs a r q s t p h = ap (λ (o : Started). record { answer = o .answer; state = o .state }) (one-outcome p h)
