@@ -3,9 +3,9 @@ use Prim.Native.Nat.{ℕ, suc, _<_}
 use mathlib.Core.Bool.{Bool, true, false, not, _&&_, and-false}
 use mathlib.Core.List.{List}
 use mathlib.Core.Path.{_≡_, refl, sym, ap, subst, _∙_}
-use borrow.Author.Tests.{eq-eqb, ne-eqb}
+use borrow.Author.Tests.{eq-eqb, ne-eqb, not-false}
 use lib.Dec.{eqb}
-use lib.ListN.{length, drop}
+use lib.ListN.{length, drop, length-replicate}
 use Rattle.table.specs.declared.Answer.{Answer}
 use Rattle.table.specs.declared.Place.{Place}
 use Rattle.table.specs.declared.State.{State}
@@ -16,14 +16,20 @@ use Rattle.pala.specs.Answers.{taken, badLength, lowestOf, shapedRows, allRows}
 use Rattle.pala.specs.Counts.{topEpoch, nodes}
 use Rattle.pala.specs.Effects.{effect, sent}
 use Rattle.pala.specs.Record.{recordBytes}
+use Rattle.pala.specs.Run.{lent}
 use Rattle.pala.specs.Shape.{wellShaped}
 use Rattle.pala.specs.Step.{Outcome, Started, outcome, room, stepShaped, step, start}
 use Rattle.pala.specs.Steps.{freshEpoch, settled}
+use Rattle.pala.proofs.Calls.{step-is, step-any-out}
+use Rattle.pala.proofs.Moves.{passed}
+use Rattle.pala.proofs.Shapes.{and-l}
 use Rattle.record.specs.declared.Fields.{Fields}
 use Rattle.record.specs.Fields.{fieldsOf, noFields}
+use Rattle.node.specs.declared.Decision.{Decision}
 use Rattle.node.specs.declared.Move.{Move}
-use Rattle.node.specs.Moves.{moveBy, placeFor, decided, Granted}
-use Rattle.node.proofs.Ways.{row-yes, row-no}
+use Rattle.node.specs.Moves.{moveBy, placeFor, decided, decision, Granted}
+use Rattle.node.proofs.Ways.{through, row-yes, row-no}
+use Rattle.node.proofs.Ways.Through.{refuses, passes, rests}
 use Rattle.node.proofs.Settles.{effect-fresh}
 
 -- what a call hands back
@@ -53,7 +59,7 @@ module _ (s : State) (r out : List ℕ) {a : Answer} where
   unfolding stepShaped
   call-taken h e w d = outcome-taken h w d ∙ ap (λ (x : Answer). outcome x s r out) (sym e)
 
--- ---- rows 2 and 3, and then what is decided
+-- ---- rows 2 and 3
 
 module _ (r out : List ℕ) where
   pub record-off : (length r ≡ recordBytes → ⊥) → badLength r out ≡ true
@@ -82,31 +88,81 @@ module _ (s : State) (r out : List ℕ) where
       row-no (s .torn) Answer.Torn (drop 1 (shapedRows room s r out)) w
       ∙ row-yes (badLength r out) Answer.Length (drop 2 (shapedRows room s r out)) h
 
-  row-others : s .torn ≡ false → badLength r out ≡ false → lowestOf (shapedRows room s r out) ≡ decided s r .answer
-  unfolding shapedRows decided moveBy
-  row-others w h =
-      row-no (s .torn) Answer.Torn (drop 1 (shapedRows room s r out)) w
-      ∙ row-no (badLength r out) Answer.Length (drop 2 (shapedRows room s r out)) h
+-- ---- what is decided of a record of any length
 
-  -- what is decided of the fields of a whole record
-  module _ {f : Fields} {m : Move} (w : s .torn ≡ false) (h : length r ≡ recordBytes) (k : length out ≡ recordBytes) (e : f ≡ pick (eqb (length r) recordBytes) (fieldsOf r) noFields) (d : (x : List ℕ) → f ≡ fieldsOf x → m ≡ decided s x) where
-    fields-read : f ≡ fieldsOf r
-    fields-read = e ∙ pick-yes (eqb (length r) recordBytes) (fieldsOf r) noFields (eq-eqb (length r) recordBytes h)
+-- the out buffer that a loop lends has 96 bytes
+lent-whole : length lent ≡ recordBytes
+unfolding lent
+lent-whole = length-replicate {A = ℕ} recordBytes 0
 
-    pub row-decided : lowestOf (shapedRows room s r out) ≡ m .answer
-    row-decided = row-others w (both-whole r out h k) ∙ ap (λ (x : Move). x .answer) (sym (d r fields-read))
+module _ (s : State) (r : List ℕ) where
+  decision-by : {f : Fields} {m : Move} → f ≡ pick (eqb (length r) recordBytes) (fieldsOf r) noFields → m ≡ moveBy (shapedRows room s r lent) (placeFor s r) → record { fields = f; answer = m .answer; place = m .place } ≡ decision s r
+  unfolding decision
+  decision-by e h = λ i. record { fields = e i; answer = h i .answer; place = h i .place }
 
-    pub granted : taken (m .answer) ≡ true → Granted s f (m .place) r
-    unfolding decided moveBy
-    granted t =
-        record {
-          out = out;
-          fields = fields-read;
-          takes = ap taken row-decided ∙ t;
-          there =
-              ap (λ (x : Move). x .place .0) (d r fields-read)
-              ∙ pick-yes (taken (decided s r .answer)) (placeFor s r) 0 (ap (λ (x : Move). taken (x .answer)) (sym (d r fields-read)) ∙ t);
-        }
+  module _ {f : Fields} (e : f ≡ pick (eqb (length r) recordBytes) (fieldsOf r) noFields) where
+    pub decided-torn : s .torn ≡ true → record { fields = f; answer = Answer.Torn; place = record { 0 = 0 } } ≡ decision s r
+    unfolding shapedRows taken
+    decided-torn h = decision-by e (through (refuses h refl))
+
+    pub decided-short : s .torn ≡ false → (length r ≡ recordBytes → ⊥) → record { fields = f; answer = Answer.Length; place = record { 0 = 0 } } ≡ decision s r
+    unfolding shapedRows taken
+    decided-short w h = decision-by e (through (passes w (refuses (record-off r lent h) refl)))
+
+    pub decided-whole : {m : Move} → s .torn ≡ false → length r ≡ recordBytes → ((x : List ℕ) → f ≡ fieldsOf x → m ≡ decided s x) → record { fields = f; answer = m .answer; place = m .place } ≡ decision s r
+    unfolding shapedRows decided
+    decided-whole w h d =
+        decision-by e
+        (through {p = placeFor s r}
+        (passes w
+        (passes {more = drop 2 (shapedRows room s r lent)} (both-whole r lent h lent-whole)
+        (rests (d r (e ∙ pick-yes (eqb (length r) recordBytes) (fieldsOf r) noFields (eq-eqb (length r) recordBytes h)))))))
+
+  -- a record that is taken is whole
+  taken-whole : taken (lowestOf (shapedRows room s r lent)) ≡ true → eqb (length r) recordBytes ≡ true
+  unfolding badLength
+  taken-whole h = and-l (eqb (length r) recordBytes) (eqb (length lent) recordBytes) (not-false _ (passed room s r lent h .lengths))
+
+  pub granted : {d : Decision} → d ≡ decision s r → taken (d .answer) ≡ true → Granted s (d .fields) (d .place) r
+  unfolding decision moveBy
+  granted e t =
+      let takes : taken (lowestOf (shapedRows room s r lent)) ≡ true = ap (λ (x : Decision). taken (x .answer)) (sym e) ∙ t in
+      record {
+        out = lent;
+        fields = ap (λ (x : Decision). x .fields) e ∙ pick-yes (eqb (length r) recordBytes) (fieldsOf r) noFields (taken-whole takes);
+        takes = takes;
+        there = ap (λ (x : Decision). x .place .0) e ∙ pick-yes (taken (lowestOf (shapedRows room s r lent))) (placeFor s r) 0 takes;
+      }
+
+  -- ---- the decision and the call on a well-shaped state
+
+  module _ (h : wellShaped s ≡ true) where
+    pub decided-answer : decision s r .answer ≡ step s r lent .answer
+    unfolding decision moveBy stepShaped outcome
+    decided-answer = sym (ap (λ (o : Outcome). o .answer) (step-is s r lent h))
+
+    -- "Otherwise .. state and out buffer come back the same"
+    pub decided-same : taken (decision s r .answer) ≡ false → step s r lent .state ≡ s
+    unfolding decision moveBy stepShaped outcome
+    decided-same t =
+        ap (λ (o : Outcome). o .state) (step-is s r lent h)
+        ∙ pick-no (taken (lowestOf (shapedRows room s r lent))) (settled (effect s r)) s t
+
+    -- "First the direct effect. Then, always in this order"
+    pub decided-taken : {d : Decision} → d ≡ decision s r → taken (d .answer) ≡ true → settled (effect s r) ≡ step s r lent .state
+    unfolding decision moveBy stepShaped outcome
+    decided-taken e t =
+        sym
+        (ap (λ (o : Outcome). o .state) (step-is s r lent h)
+        ∙ pick-yes (taken (lowestOf (shapedRows room s r lent))) (settled (effect s r)) s (ap (λ (x : Decision). taken (x .answer)) (sym e) ∙ t))
+
+    -- any buffer of 96 bytes is answered as the lent one
+    pub decided-rows : (out : List ℕ) {d : Decision} → length out ≡ recordBytes → d ≡ decision s r → lowestOf (shapedRows room s r out) ≡ d .answer
+    unfolding stepShaped outcome
+    decided-rows out l e =
+        ap (λ (o : Outcome). o .answer) (sym (step-is s r out h))
+        ∙ step-any-out s r out lent l lent-whole .1
+        ∙ sym (ap (λ (x : Decision). x .answer) e ∙ decided-answer)
 
 -- after its direct effect there is an epoch above the freshest one
 pub granted-fresh :

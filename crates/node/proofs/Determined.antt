@@ -4,6 +4,8 @@ use Rattle.node.proofs.answers.number_of.Reads as number-of
 use Rattle.node.proofs.answers.is_taken.Reads as is-taken
 use Rattle.node.proofs.step.Reads as step
 use Rattle.node.proofs.step_shaped.Reads as step-shaped
+use Rattle.node.proofs.decide_shaped.Reads as decide-shaped
+use Rattle.node.proofs.take_shaped.Reads as take-shaped
 use Rattle.pala.specs.Step.{Outcome, Started}
 use Rattle.node.proofs.start.Reads as start
 use denote.Ref.{now}
@@ -25,3 +27,10 @@ step-shaped-one κs a r q s t p h =
 
 start-one : (κs : _) (a : _) (r q : _) (s t : _) → start.Post κs a r s → start.Post κs a q t → r ≡ q
 start-one κs a r q s t p h = ap (λ (o : Started). record { answer = o .answer; state = o .state }) (one-outcome p h)
+
+decide-shaped-one : (κs : _) (a : _) (r q : _) (s t : _) → decide-shaped.Post κs a r s → decide-shaped.Post κs a q t → r ≡ q
+decide-shaped-one κs a r q s t = one-outcome
+
+-- its state is said for every record that was so decided, and there is one
+take-shaped-one : (κs : _) (a : _) (r q : _) (s t : _) → take-shaped.Pre κs a → take-shaped.Post κs a r s → take-shaped.Post κs a q t → r ≡ q
+take-shaped-one κs a r q s t h p k = one-outcome (p (h .2 .0) (h .2 .1)) (k (h .2 .0) (h .2 .1))

@@ -11,6 +11,7 @@ use lib.ListN.{length, List·getD-eq-default}
 use Rattle.table.specs.declared.Block.{Block}
 use Rattle.table.specs.declared.Epoch.{Epoch}
 use Rattle.table.specs.declared.Place.{Place}
+use Rattle.table.specs.declared.rows.Found.{Found}
 use Rattle.table.specs.declared.State.{State}
 use Rattle.table.specs.Rows.{capacity, rows, size, at, hasVoter}
 use Rattle.table.proofs.Laws.{size-rows}
@@ -50,7 +51,18 @@ not-is-yes {a} {b} h = ap not (ne-eqb a b h)
 pub not-is-no : {a b : ℕ} → a ≡ b → not (eqb a b) ≡ false
 not-is-no {a} {b} h = ap not (eq-eqb a b h)
 
--- the place that a search found
+-- what a search found: its place, the epoch and the voters of its block
+pub found-place : {x : Found} {k : ℕ} {b : Block} → x ≡ record { place = record { 0 = k }; block = b } → x .place .0 ≡ k
+found-place e = ap (λ (y : Found). y .place .0) e
+
+pub epoch-found : (t : List Block) {x : Found} {k : ℕ} → x ≡ record { place = record { 0 = k }; block = at t k } → x .block .epoch .0 ≡ epochAt t k
+unfolding epochAt
+epoch-found t e = ap (λ (y : Found). y .block .epoch .0) e
+
+pub voter-found : (t : List Block) (i : ℕ) {v : Bool} {x : Found} {k : ℕ} → v ≡ hasVoter (x .block) i → x ≡ record { place = record { 0 = k }; block = at t k } → hasVoter (at t k) i ≡ v
+voter-found t i h e = sym (h ∙ ap (λ (y : Found). hasVoter (y .block) i) e)
+
+-- the place that a rule tells
 pub number : {p : Place} {k : ℕ} → p ≡ record { 0 = k } → p .0 ≡ k
 number e = ap (λ (q : Place). q .0) e
 
@@ -63,14 +75,10 @@ pub clock-past : (clocks : List Epoch) (i n : ℕ) → length clocks ≡ n → n
 unfolding clockOf
 clock-past clocks i n e h = ap (λ (x : Epoch). x .0) (List·getD-eq-default clocks (record { 0 = 0 }) (omega arith))
 
--- the epoch and the voters of the block that stands there
+-- the epoch of the block that stands there
 pub epoch-there : (t : List Block) {b : Block} {p : Place} {k : ℕ} → b ≡ at t (p .0) → p ≡ record { 0 = k } → b .epoch .0 ≡ epochAt t k
 unfolding epochAt
 epoch-there t a e = ap (λ (x : Block). x .epoch .0) a ∙ ap (λ (q : Place). at t (q .0) .epoch .0) e
-
-pub voter-there : (t : List Block) (i : ℕ) {v : Bool} {b : Block} {p : Place} {k : ℕ} → v ≡ hasVoter b i → b ≡ at t (p .0) → p ≡ record { 0 = k } → hasVoter (at t k) i ≡ v
-voter-there t i h a e =
-    sym (h ∙ ap (λ (x : Block). hasVoter x i) a ∙ ap (λ (q : Place). hasVoter (at t (q .0)) i) e)
 
 -- the root and each block held
 pub sized : (s : State) → wellShaped s ≡ true → length (s .blocks) ≡ suc capacity → size (rows s) ≡ suc (s .count)

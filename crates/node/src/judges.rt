@@ -40,16 +40,17 @@ pub fn judge_proposal(s: State, f: Fields) -> Move
     if zero_name(name) {
         return refused(Answer::Name);
     }
-    let held = find(s, name);
+    let held = find(s, name).place;
     if held.0 <= s.count {
         return refused(Answer::Name);
     }
     let above = f.parent;
-    let parent = find(s, above);
+    let found = find(s, above);
+    let parent = found.place;
     if s.count < parent.0 {
         return refused(Answer::Unknown);
     }
-    let b = at(s, parent);
+    let b = found.block;
     if e <= b.epoch.0 {
         return refused(Answer::Order);
     }
@@ -71,14 +72,15 @@ pub fn judge_vote(s: State, f: Fields) -> Move
     ensures { λ m. ⌜ ((r : List ℕ) → f ≡ fieldsOf r → m ≡ judged s r) ⌝ }
 {
     let name = f.name;
-    let block = find(s, name);
+    let found = find(s, name);
+    let block = found.place;
     if block.0 == 0 {
         return refused(Answer::Unknown);
     }
     if s.count < block.0 {
         return refused(Answer::Unknown);
     }
-    if has_voter(at(s, block), f.sender) {
+    if has_voter(found.block, f.sender) {
         return refused(Answer::Repeat);
     }
     Move {
@@ -120,7 +122,7 @@ pub fn judge_propose(s: State, f: Fields) -> Move
     if zero_name(name) {
         return refused(Answer::Name);
     }
-    let held = find(s, name);
+    let held = find(s, name).place;
     if held.0 <= s.count {
         return refused(Answer::Name);
     }

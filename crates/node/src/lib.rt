@@ -14,6 +14,8 @@ mod settling;
 use answers::is_taken;
 use decide::decide;
 use effects::apply;
+use moves::passed_over;
+use record::Fields;
 use record::RECORD_BYTES;
 use record::fields_at;
 use sending::send;
@@ -27,9 +29,14 @@ use table::State;
 use table::states::all_zero;
 use table::states::fresh;
 ghost use mathlib.Core.Bool.{true};
+ghost use Prim.Native.Nat.{ℕ};
+ghost use mathlib.Core.List.{List};
 ghost use mathlib.Core.Path.{_≡_};
+ghost use Rattle.pala.specs.Answers.{taken};
+ghost use Rattle.pala.specs.Run.{lent};
 ghost use Rattle.pala.specs.Shape.{wellShaped};
 ghost use Rattle.pala.specs.Step.{room, start, step, stepShaped};
+ghost use Rattle.node.specs.Moves.{decision};
 
 // What a call hands back.
 pub struct Reply {
@@ -41,6 +48,13 @@ pub struct Reply {
 struct Move {
     answer: Answer,
     place: Place,
+}
+
+// What is decided of a record of any length: its fields, the answer and, where it is taken, the place.
+pub struct Decision {
+    pub fields: Fields,
+    pub answer: Answer,
+    pub place: Place,
 }
 
 // "Starting with n of 0 or above 32, or own number not below n, answers 15 and an all-zero state."
@@ -60,7 +74,39 @@ pub fn start(n: u32, own: u32) -> Reply
     }
 }
 
-// A call on a well-shaped state, for loops that hand on what a call handed back: the shape is not tested again.
+// A record judged on a well-shaped state, for loops that lend 96 bytes to send into: a refused one rebuilds no state.
+pub fn decide_shaped(s: State, rec: &[u8]) -> Decision
+    requires { ⌜ wellShaped s ≡ true ⌝ }
+    ensures { λ d. ⌜ d ≡ decision s (now (rec .entry)) ⌝ }
+{
+    let f = fields_at(rec);
+    if s.torn {
+        return passed_over(f, Answer::Torn);
+    }
+    if rec.len() != RECORD_BYTES {
+        return passed_over(f, Answer::Length);
+    }
+    let m = decide(s, f);
+    let answer = m.answer;
+    let place = m.place;
+    Decision {
+        fields: f,
+        answer: answer,
+        place: place,
+    }
+}
+
+// The state after a record that is taken: the direct effect, then the five steps.
+pub fn take_shaped(s: State, d: Decision) -> State
+    requires { ⌜ (wellShaped s ≡ true) × (taken (d .answer) ≡ true) × ((r : List ℕ) × (d ≡ decision s r)) ⌝ }
+    ensures { λ t. ⌜ ((r : List ℕ) → d ≡ decision s r → t ≡ step s r lent .state) ⌝ }
+{
+    let f = d.fields;
+    let place = d.place;
+    settle(apply(s, f, place))
+}
+
+// A call on a well-shaped state.
 pub fn step_shaped(s: State, rec: &[u8], out: &mut [u8]) -> Reply
     requires { ⌜ wellShaped s ≡ true ⌝ }
     ensures { λ r. ⌜ record { answer = r .answer; state = r .state; out = now (out .exit) } ≡ stepShaped room s (now (rec .entry)) (now (out .entry)) ⌝ }
@@ -71,32 +117,26 @@ pub fn step_shaped(s: State, rec: &[u8], out: &mut [u8]) -> Reply
             state: s,
         };
     }
-    if rec.len() != RECORD_BYTES {
-        return Reply {
-            answer: Answer::Length,
-            state: s,
-        };
-    }
     if out.len() != RECORD_BYTES {
         return Reply {
             answer: Answer::Length,
             state: s,
         };
     }
-    let f = fields_at(rec);
-    let m = decide(s, f);
-    let answer = m.answer;
+    let d = decide_shaped(s, rec);
+    let answer = d.answer;
     if !is_taken(answer) {
         return Reply {
             answer: answer,
             state: s,
         };
     }
-    let place = m.place;
+    let f = d.fields;
+    let place = d.place;
     send(s, f, place, out);
     Reply {
         answer: answer,
-        state: settle(apply(s, f, place)),
+        state: take_shaped(s, d),
     }
 }
 

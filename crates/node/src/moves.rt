@@ -1,6 +1,8 @@
 // The two moves that a row can end in, and the clock kept from a node.
 
+use crate::Decision;
 use crate::Move;
+use record::Fields;
 use table::Answer;
 use table::Epoch;
 use table::MOST_NODES;
@@ -14,6 +16,17 @@ pub fn refused(answer: Answer) -> Move
     ensures { λ m. ⌜ m ≡ record { answer = answer; place = record { 0 = 0 } } ⌝ }
 {
     Move {
+        answer: answer,
+        place: Place(0),
+    }
+}
+
+// A refusal beside the fields of its record.
+pub fn passed_over(f: Fields, answer: Answer) -> Decision
+    ensures { λ d. ⌜ d ≡ record { fields = f; answer = answer; place = record { 0 = 0 } } ⌝ }
+{
+    Decision {
+        fields: f,
         answer: answer,
         place: Place(0),
     }

@@ -18,6 +18,7 @@ use Rattle.table.specs.Scan.{pick, allBelow, count, lowest, highest, gre
 use Rattle.table.specs.Bytes.{same, zeros}
 use Rattle.table.specs.Rows.{rows, at, size, blank, find, hasVoter, withVoter, votes, mostNodes}
 use Rattle.table.specs.declared.Block.{Block}
+use Rattle.table.specs.declared.rows.Found.{Found}
 use Rattle.table.specs.declared.State.{State}
 
 -- ---- promises
@@ -343,6 +344,13 @@ find-is t name w l h below = lowest-is (size t) (λ p. same (at t p .name) name)
 pub find-none : (t : List Block) (name : List ℕ) → ((i : ℕ) → i < size t → same (at t i .name) name ≡ false) → find t name ≡ size t
 unfolding find
 find-none t name none-has = lowest-none (size t) (λ p. same (at t p .name) name) none-has
+
+-- .. and what is found there
+pub found-is : (t : List Block) (name : List ℕ) (p : ℕ) (b : Block) → find t name ≡ p → at t p ≡ b → _≡_ {A = Found} (record { place = record { 0 = p }; block = b }) (record { place = record { 0 = find t name }; block = at t (find t name) })
+found-is t name p b e h =
+    sym
+    (ap (λ (w : ℕ). record { place = record { 0 = w }; block = at t w }) e
+    ∙ ap (λ (x : Block). record { place = record { 0 = p }; block = x }) h)
 
 -- ---- voters
 

@@ -9,6 +9,12 @@ ghost use mathlib.Core.Path.{_≡_};
 ghost use Prim.Native.Nat.{suc, min};
 ghost use Rattle.table.specs.Rows.{at, capacity, find, rows};
 
+// Where a name was found, and the block that has it.
+pub struct Found {
+    pub place: Place,
+    pub block: Block,
+}
+
 // The block at a place; past the end, the root.
 pub fn at(s: State, p: Place) -> Block
     ensures { λ r. ⌜ r ≡ at (rows s) (p .0) ⌝ }
@@ -35,9 +41,9 @@ fn size_of(count: u32) -> u32
     count + 1
 }
 
-// The place of a name; past the end where no row has it.
-pub fn find(s: State, name: [u8; 32]) -> Place
-    ensures { λ r. ⌜ r ≡ record { 0 = find (rows s) name } ⌝ }
+// The place of a name and the block there; past the end, and the root, where no row has it.
+pub fn find(s: State, name: [u8; 32]) -> Found
+    ensures { λ r. ⌜ r ≡ record { place = record { 0 = find (rows s) name }; block = at (rows s) (find (rows s) name) } ⌝ }
 {
     let end = size_of(s.count);
     let mut k: u32 = 0;
@@ -46,9 +52,16 @@ pub fn find(s: State, name: [u8; 32]) -> Place
         let b = s.blocks[i];
         let held = b.name;
         if same_name(held, name) {
-            return Place(k);
+            return Found {
+                place: Place(k),
+                block: b,
+            };
         }
         k += 1;
     }
-    Place(end)
+    let root = s.blocks[0];
+    Found {
+        place: Place(end),
+        block: root,
+    }
 }

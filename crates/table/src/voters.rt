@@ -32,11 +32,11 @@ pub fn with_voter(b: Block, who: NodeNo) -> Block
     next
 }
 
-// How many voters a block has.
+// How many voters a block has; counted in a byte, which sixteen of can be summed at once.
 pub fn votes(b: Block) -> u32
     ensures { λ r. ⌜ r ≡ votes b ⌝ }
 {
-    let mut n: u32 = 0;
+    let mut n: u8 = 0;
     let mut k: u32 = 0;
     while k < MOST_NODES {
         let i = k as usize;
@@ -45,5 +45,5 @@ pub fn votes(b: Block) -> u32
         }
         k += 1;
     }
-    n
+    n as u32
 }

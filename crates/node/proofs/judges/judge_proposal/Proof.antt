@@ -8,7 +8,7 @@ use borrow.Author.Needs.{needs}
 use borrow.Author.Tests.{lt-ltb, le-ltb, le-leb, lt-leb, eq-eqb, ne-eqb}
 use lib.ListN.{length}
 use Rattle.table.specs.declared.Answer.{Answer}
-use Rattle.table.specs.declared.Place.{Place}
+use Rattle.table.specs.declared.rows.Found.{Found}
 use Rattle.table.specs.Rows.{capacity, rows, find}
 use Rattle.table.proofs.Laws.{length-unmap}
 use Rattle.pala.specs.Answers.{taken, proposer}
@@ -20,7 +20,7 @@ use Rattle.node.specs.Moves.{judged}
 use Rattle.node.proofs.Ways.{Through, Past}
 use Rattle.node.proofs.Ways.Through.{refuses, passes, takes}
 use Rattle.node.proofs.ByKind.{proposalRows, proposal-judged}
-use Rattle.node.proofs.Facts.{le-yes, le-no, least-yes, least-no, past-yes, past-no, not-is-yes, not-is-no, number, epoch-there, sized}
+use Rattle.node.proofs.Facts.{le-yes, le-no, least-yes, least-no, past-yes, past-no, not-is-yes, not-is-no, found-place, epoch-found, sized}
 use Rattle.node.proofs.judges.judge_proposal.Statement.{statement}
 use Rattle.node.proofs.judges.judge_proposal.Tie as tie
 
@@ -53,22 +53,22 @@ past-3 : (c : tie.Else3) → To (from-3 c) 3
 past-3 c m way = past-2 (c .before .before .before) m (passes (sym (c .before .zero-name .ensures) ∙ c .if3 .left) way)
 
 abbrev from-4 : tie.Else4 → tie.Start
-from-4 c = from-3 (c .before .before .before .before)
+from-4 c = from-3 (c .before .before .before .before .before)
 
 past-4 : (c : tie.Else4) → To (from-4 c) 4
-past-4 c m way = past-3 (c .before .before .before .before) m (passes (le-no (number (c .before .before .before .find .ensures)) (c .if4 .left)) way)
+past-4 c m way = past-3 (c .before .before .before .before .before) m (passes (le-no (found-place (c .before .before .before .before .find .ensures)) (c .if4 .left)) way)
 
 abbrev from-5 : tie.Else5 → tie.Start
-from-5 c = from-4 (c .before .before .before .before .before)
+from-5 c = from-4 (c .before .before .before .before .before .before)
 
 past-5 : (c : tie.Else5) → To (from-5 c) 5
-past-5 c m way = past-4 (c .before .before .before .before .before) m (passes (past-no (number (c .before .before .before .find2 .ensures)) (c .if5 .left)) way)
+past-5 c m way = past-4 (c .before .before .before .before .before .before) m (passes (past-no (found-place (c .before .before .before .before .find2 .ensures)) (c .if5 .left)) way)
 
 abbrev from-6 : tie.Else6 → tie.Start
 from-6 c = from-5 (c .before .before .before)
 
 past-6 : (c : tie.Else6) → To (from-6 c) 6
-past-6 c m way = past-5 (c .before .before .before) m (passes (least-no (epoch-there _ (c .before .before .at .ensures) (c .before .before .before .before .before .before .find2 .ensures)) (c .if6 .left)) way)
+past-6 c m way = past-5 (c .before .before .before) m (passes (least-no (epoch-found _ (c .before .before .before .before .before .before .before .find2 .ensures)) (c .if6 .left)) way)
 
 abbrev from-7 : tie.Else7 → tie.Start
 from-7 c = from-6 (c .before .before .before)
@@ -116,7 +116,7 @@ refused-requires-4 c κs = search needs
 
 returns-4 : tie.Need-returns-4
 unfolding taken
-returns-4 c r e = c .refused4 .ensures ∙ given (from-3 (c .before .before .before .before .before)) _ (past-3 (c .before .before .before .before .before) _ (refuses (le-yes (number (c .before .before .before .before .find .ensures)) (c .before .if4 .taken)) refl)) r e
+returns-4 c r e = c .refused4 .ensures ∙ given (from-3 (c .before .before .before .before .before .before)) _ (past-3 (c .before .before .before .before .before .before) _ (refuses (le-yes (found-place (c .before .before .before .before .before .find .ensures)) (c .before .if4 .taken)) refl)) r e
 
 find-requires-2 : tie.Need-find-requires-2
 find-requires-2 c κs = search needs
@@ -126,17 +126,14 @@ refused-requires-5 c κs = search needs
 
 returns-5 : tie.Need-returns-5
 unfolding taken
-returns-5 c r e = c .refused5 .ensures ∙ given (from-4 (c .before .before .before .before .before .before)) _ (past-4 (c .before .before .before .before .before .before) _ (refuses (past-yes (number (c .before .before .before .before .find2 .ensures)) (c .before .if5 .taken)) refl)) r e
-
-at-requires : tie.Need-at-requires
-at-requires c κs = search needs
+returns-5 c r e = c .refused5 .ensures ∙ given (from-4 (c .before .before .before .before .before .before .before)) _ (past-4 (c .before .before .before .before .before .before .before) _ (refuses (past-yes (found-place (c .before .before .before .before .before .find2 .ensures)) (c .before .if5 .taken)) refl)) r e
 
 refused-requires-6 : tie.Need-refused-requires-6
 refused-requires-6 c κs = search needs
 
 returns-6 : tie.Need-returns-6
 unfolding taken
-returns-6 c r e = c .refused6 .ensures ∙ given (from-5 (c .before .before .before .before)) _ (past-5 (c .before .before .before .before) _ (refuses (least-yes (epoch-there _ (c .before .before .before .at .ensures) (c .before .before .before .before .before .before .before .find2 .ensures)) (c .before .if6 .taken)) refl)) r e
+returns-6 c r e = c .refused6 .ensures ∙ given (from-5 (c .before .before .before .before)) _ (past-5 (c .before .before .before .before) _ (refuses (least-yes (epoch-found _ (c .before .before .before .before .before .before .before .before .find2 .ensures)) (c .before .if6 .taken)) refl)) r e
 
 rem-if7 : tie.Need-rem-if7
 rem-if7 c = omega (arith, shaped-nodes (from-6 (c .before) .args .s) (from-6 (c .before) .pre .0))
@@ -156,7 +153,7 @@ unfolding taken room
 returns-8 c r e = c .refused8 .ensures ∙ given (from-7 (c .before .before .before)) _ (past-7 (c .before .before .before) _ (refuses (ap not (le-ltb _ _ (c .before .if8 .taken))) refl)) r e
 
 returns-9 : tie.Need-returns-9
-returns-9 c r e = ap (λ (p : Place). record { answer = Answer.Taken; place = p }) (c .before .before .before .before .before .before .before .before .before .before .before .find2 .ensures) ∙ given (from-8 c) _ (past-8 c _ takes) r e
+returns-9 c r e = ap (λ (x : Found). record { answer = Answer.Taken; place = x .place }) (c .before .before .before .before .before .before .before .before .before .before .before .before .find2 .ensures) ∙ given (from-8 c) _ (past-8 c _ takes) r e
 
 pub judge-proposal-spec : {M : Type 1} → statement M
 judge-proposal-spec =
@@ -175,7 +172,6 @@ judge-proposal-spec =
     find-requires-2
     refused-requires-5
     returns-5
-    at-requires
     refused-requires-6
     returns-6
     rem-if7

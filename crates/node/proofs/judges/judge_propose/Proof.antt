@@ -21,7 +21,7 @@ use Rattle.node.specs.Moves.{judged}
 use Rattle.node.proofs.Ways.{Through, Past}
 use Rattle.node.proofs.Ways.Through.{refuses, passes, takes}
 use Rattle.node.proofs.ByKind.{proposeRows, propose-judged}
-use Rattle.node.proofs.Facts.{le-yes, le-no, least-yes, least-no, not-is-yes, not-is-no, number, epoch-there, sized}
+use Rattle.node.proofs.Facts.{le-yes, le-no, least-yes, least-no, not-is-yes, not-is-no, found-place, epoch-there, sized}
 use Rattle.node.proofs.judges.judge_propose.Statement.{statement}
 use Rattle.node.proofs.judges.judge_propose.Tie as tie
 
@@ -48,10 +48,10 @@ past-2 : (c : tie.Else2) → To (from-2 c) 2
 past-2 c m way = past-1 (c .before .before .before) m (passes (sym (c .before .zero-name .ensures) ∙ c .if2 .left) way)
 
 abbrev from-3 : tie.Else3 → tie.Start
-from-3 c = from-2 (c .before .before .before .before)
+from-3 c = from-2 (c .before .before .before .before .before)
 
 past-3 : (c : tie.Else3) → To (from-3 c) 3
-past-3 c m way = past-2 (c .before .before .before .before) m (passes (le-no (number (c .before .before .before .find .ensures)) (c .if3 .left)) way)
+past-3 c m way = past-2 (c .before .before .before .before .before) m (passes (le-no (found-place (c .before .before .before .before .find .ensures)) (c .if3 .left)) way)
 
 abbrev from-4 : tie.Else4 → tie.Start
 from-4 c = from-3 (c .before .before .before .before)
@@ -104,7 +104,7 @@ refused-requires-3 c κs = search needs
 
 returns-3 : tie.Need-returns-3
 unfolding taken
-returns-3 c r e = c .refused3 .ensures ∙ given (from-2 (c .before .before .before .before .before)) _ (past-2 (c .before .before .before .before .before) _ (refuses (le-yes (number (c .before .before .before .before .find .ensures)) (c .before .if3 .taken)) refl)) r e
+returns-3 c r e = c .refused3 .ensures ∙ given (from-2 (c .before .before .before .before .before .before)) _ (past-2 (c .before .before .before .before .before .before) _ (refuses (le-yes (found-place (c .before .before .before .before .before .find .ensures)) (c .before .if3 .taken)) refl)) r e
 
 freshest-requires : tie.Need-freshest-requires
 freshest-requires c κs = search needs

@@ -9,7 +9,7 @@ use lib.ListN.{length}
 use Rattle.table.specs.Bytes.{same}
 use Rattle.table.specs.Rows.{at, capacity, rows, size}
 use Rattle.table.specs.declared.Block.{Block}
-use Rattle.table.proofs.Laws.{at-rows, find-is, find-none, length-unmap, size-rows}
+use Rattle.table.proofs.Laws.{at-past, at-rows, find-is, find-none, found-is, length-unmap, size-rows}
 use Rattle.table.proofs.rows.find.Statement.{statement}
 use Rattle.table.proofs.rows.find.Tie as tie
 
@@ -62,7 +62,8 @@ returns : tie.Need-returns Inv-loop μ-loop
 returns c =
     let l = c .before .before .before .before .before in
     let here = sym (compared (c .before)) ∙ c .if1 .taken in
-    ap (λ (w : ℕ). record { 0 = w }) (sym (find-is _ _ (l .loop .k) (omega (arith, ends (l .before))) here (l .loop .inv .1)))
+    let h = held (l .before .before) in
+    found-is _ _ _ _ (find-is _ _ (l .loop .k) (omega (arith, ends (l .before))) here (l .loop .inv .1)) (at-rows _ _ _ (omega arith) (omega arith))
 
 add-k : tie.Need-add-k Inv-loop μ-loop
 add-k c = omega arith
@@ -75,10 +76,15 @@ loop-again c =
     let l = c .before .before .before .before .before in
     (omega arith, below-more _ _ (l .loop .inv .1) (sym (compared (c .before)) ∙ c .if1 .left))
 
+element-copy-out-root : tie.Need-element-copy-out-root Inv-loop μ-loop
+element-copy-out-root c = search needs
+
 returns-2 : tie.Need-returns-2 Inv-loop μ-loop
 returns-2 c =
-    let e = ends (c .before .before) in
-    ap (λ (w : ℕ). record { 0 = w }) (e ∙ sym (find-none _ _ (λ i l. c .before .loop .inv .1 i (omega arith))))
+    let l = c .before .before in
+    let e = ends (l .before) in
+    let h = held (l .before .before) in
+    found-is _ _ _ _ (find-none _ _ (λ i m. l .loop .inv .1 i (omega arith)) ∙ sym e) (at-past _ _ _ (omega arith) (omega arith))
 
 pub find-spec : {M : Type 1} → statement M
 find-spec =
@@ -96,4 +102,5 @@ find-spec =
     add-k
     loop-less
     loop-again
+    element-copy-out-root
     returns-2)

@@ -45,6 +45,11 @@ loop-again c =
     let ok = hasVoter (l .before .args .t1) in
     (omega arith, ⊎-elim (λ w. omega (arith, count-yes k ok (w .0 .taken))) (λ w. omega (arith, count-no k ok (w .0 .left))) (c .if1 .came))
 
+cast-result : tie.Need-cast-result Inv-loop μ-loop
+cast-result c =
+    let l = c .before in
+    omega (arith, count-le (l .loop .k) (hasVoter (l .before .args .t1)))
+
 returns : tie.Need-returns Inv-loop μ-loop
 returns c = c .before .loop .inv .1 ∙ votes-count _ _ (omega arith)
 
@@ -61,4 +66,5 @@ votes-spec =
     add-k
     loop-less
     loop-again
+    cast-result
     returns)
