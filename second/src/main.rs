@@ -10,9 +10,12 @@ use std::str::FromStr;
 use second::run::{LIST_LEN, REFUSAL_UNIT};
 use second::state::NAME_LEN;
 use second::trials::bench::bench;
+use second::trials::cases::write_cases;
 use second::trials::compare::compare_replay;
+use second::trials::compare_states::compare_states;
 use second::trials::load::{load, write_long, LOAD_NODES};
 use second::trials::script::{print_answers, write_script};
+use second::trials::wire::step_cases;
 use second::{relation, replay, run, tail};
 
 const USAGE: &str = "usage: second replay < RECORDING
@@ -21,6 +24,9 @@ const USAGE: &str = "usage: second replay < RECORDING
        second compare-replay PROGRAM COUNT SEED
        second script COUNT SEED > SCRIPT
        second answers < SCRIPT
+       second compare-states PROGRAM COUNT SEED
+       second cases COUNT SEED > CASES
+       second step-cases < CASES > REPLIES
        second bench PROGRAM
        second recording 4|7|32 > RECORDING
        second long BYTES > RECORDING";
@@ -82,6 +88,12 @@ fn command(words: &[OsString], output: &mut impl Write) -> Result<(), Failure> {
             io::stdin().lock().read_to_end(&mut script)?;
             print_answers(&script, output)?;
         }
+        ("compare-states", [program, count, seed]) => {
+            let (count, seed) = (number(count)?, number(seed)?);
+            same(compare_states(program, count, seed, output)?)?;
+        }
+        ("cases", [count, seed]) => write_cases(number(count)?, number(seed)?, output)?,
+        ("step-cases", []) => step_cases(io::stdin().lock(), output)?,
         ("bench", [program]) => same(bench(program, output)?)?,
         ("recording", [n]) => {
             let n = number(n)?;

@@ -10,7 +10,7 @@ use crate::state::{State, MAX_BLOCKS, MAX_NODES};
 /// The answers of a record: taken, and rows 1 to 14.
 const ANSWERS: usize = Refusal::Full as usize + 1;
 /// A column for each kind, and one for any byte that is none.
-const COLUMNS: usize = Kind::Minute as usize + 1;
+pub const COLUMNS: usize = Kind::Minute as usize + 1;
 
 const NO_KIND: u8 = 0;
 const PROPOSAL: u8 = Kind::Proposal as u8;
@@ -40,6 +40,51 @@ const NAMED: [(u8, &[u8]); ANSWERS - 1] = [
     (Refusal::Full as u8, &[PROPOSAL, PROPOSE]),
 ];
 
+/// What more there is to meet where a state is handed in.
+const HANDED_IN: [(u8, &[u8]); 5] = [
+    (Refusal::State as u8, EACH_KIND),
+    (Refusal::State as u8, &[NO_KIND]),
+    (Refusal::Torn as u8, &[NO_KIND]),
+    (Refusal::Length as u8, &[NO_KIND]),
+    (Refusal::Order as u8, &[PROPOSE]),
+];
+
+/// How often each answer came for each kind.
+#[derive(Clone, Debug, Default, PartialEq, Eq)]
+pub struct Answers([[u64; COLUMNS]; ANSWERS]);
+
+impl Answers {
+    /// Counts a record's answer.
+    pub fn count(&mut self, record: &[u8], answer: u8) {
+        let kind = record.first().and_then(|byte| Kind::read(*byte));
+        let column = kind.map_or(NO_KIND, Kind::number);
+        self.0[usize::from(answer)][usize::from(column)] += 1;
+    }
+
+    /// How often this answer came for this kind; kind 0 is any byte that is none.
+    pub fn times(&self, answer: u8, kind: u8) -> u64 {
+        self.0[usize::from(answer)][usize::from(kind)]
+    }
+
+    /// All answers counted.
+    pub fn total(&self) -> u64 {
+        self.0.iter().flatten().sum()
+    }
+
+    /// For each answer from 0 on, how often it came for kind 0, 1 and so on.
+    pub fn rows(&self) -> impl Iterator<Item = &[u64; COLUMNS]> {
+        self.0.iter()
+    }
+
+    /// Those of these pairs that never came, in words.
+    pub fn missing(&self, pairs: impl Iterator<Item = (u8, u8)>) -> Vec<String> {
+        let never = pairs.filter(|(answer, kind)| self.times(*answer, *kind) == 0);
+        never
+            .map(|(answer, kind)| format!("answer {answer} for kind {kind}"))
+            .collect()
+    }
+}
+
 /// What the recordings met, counted at the gateway that hears them.
 #[derive(Clone, Debug, PartialEq, Eq)]
 pub struct Coverage {
@@ -55,7 +100,7 @@ pub struct Coverage {
     pub full: u64,
     /// The most names that a final list had.
     pub longest_list: usize,
-    answers: [[u64; COLUMNS]; ANSWERS],
+    answers: Answers,
     node_counts: [u64; MAX_NODES],
     last_lengths: [u64; RECORD_LEN],
 }
@@ -70,7 +115,7 @@ impl Default for Coverage {
             torn: 0,
             full: 0,
             longest_list: 0,
-            answers: [[0; COLUMNS]; ANSWERS],
+            answers: Answers::default(),
             node_counts: [0; MAX_NODES],
             last_lengths: [0; RECORD_LEN],
         }
@@ -80,9 +125,7 @@ impl Default for Coverage {
 impl Coverage {
     /// Counts a record's answer.
     pub fn count_record(&mut self, record: &[u8], answer: u8) {
-        let kind = record.first().and_then(|byte| Kind::read(*byte));
-        let column = kind.map_or(NO_KIND, Kind::number);
-        self.answers[usize::from(answer)][usize::from(column)] += 1;
+        self.answers.count(record, answer);
     }
 
     /// Counts a recording by the state at its end and the bytes of its short last
@@ -106,20 +149,17 @@ impl Coverage {
 
     /// How often this answer came for this kind; kind 0 is any byte that is none.
     pub fn times(&self, answer: u8, kind: u8) -> u64 {
-        self.answers[usize::from(answer)][usize::from(kind)]
+        self.answers.times(answer, kind)
     }
 
     /// All records counted.
     pub fn records(&self) -> u64 {
-        self.answers.iter().flatten().sum()
+        self.answers.total()
     }
 
     /// What had to be met and never was, in words.
     pub fn missing(&self) -> Vec<String> {
-        let pairs = named_pairs().filter(|(answer, kind)| self.times(*answer, *kind) == 0);
-        let mut missing: Vec<String> = pairs
-            .map(|(answer, kind)| format!("answer {answer} for kind {kind}"))
-            .collect();
+        let mut missing = self.answers.missing(named_pairs());
         let counts = zeros(&self.node_counts);
         missing.extend(counts.map(|index| format!("n = {}", index + 1)));
         let lengths = zeros(&self.last_lengths);
@@ -136,13 +176,22 @@ impl Coverage {
 
 /// Each answer with each kind that the table names for it.
 pub fn named_pairs() -> impl Iterator<Item = (u8, u8)> {
-    NAMED
-        .into_iter()
-        .flat_map(|(answer, kinds)| kinds.iter().map(move |kind| (answer, *kind)))
+    pairs_of(&NAMED)
+}
+
+/// The same for states that are handed in: the pairs that no start leads to as
+/// well, and the rows before row 4 for a byte that is no kind.
+pub fn handed_pairs() -> impl Iterator<Item = (u8, u8)> {
+    named_pairs().chain(pairs_of(&HANDED_IN))
+}
+
+fn pairs_of(named: &'static [(u8, &[u8])]) -> impl Iterator<Item = (u8, u8)> {
+    let pairs = named.iter();
+    pairs.flat_map(|(answer, kinds)| kinds.iter().map(|kind| (*answer, *kind)))
 }
 
 /// The indices of what was never met.
-fn zeros(counts: &[u64]) -> impl Iterator<Item = usize> + '_ {
+pub fn zeros(counts: &[u64]) -> impl Iterator<Item = usize> + '_ {
     (0..counts.len()).filter(|index| counts[*index] == 0)
 }
 

@@ -4,9 +4,18 @@
 //! mixed in; [`coverage`] counts which answers they met; [`compare`] plays them
 //! to another program. [`script`] does the same for the two functions that C
 //! calls. [`load`] makes the recordings that [`mod@bench`] times.
+//!
+//! [`cases`] makes states that are handed in and stepped once: [`states`] builds
+//! them, [`breaks`] breaks their shape clause by clause, as [`clauses`] tells them
+//! apart, [`wire`] lays them out, [`tally`] counts what they met and
+//! [`compare_states`] hands them to another program.
 
 pub mod bench;
+pub mod breaks;
+pub mod cases;
+pub mod clauses;
 pub mod compare;
+pub mod compare_states;
 pub mod coverage;
 pub mod damage;
 pub mod generate;
@@ -15,3 +24,6 @@ pub mod load;
 pub mod random;
 pub mod records;
 pub mod script;
+pub mod states;
+pub mod tally;
+pub mod wire;

@@ -1,0 +1,60 @@
+-- The rows keep their number. The measure is what is left of them. Assumes nothing.
+use Prim.Native.Nat.{_≤_, _-_}
+use mathlib.Core.Path.{_≡_}
+use borrow.Author.Needs.{needs}
+use lib.ListN.{length}
+use Rattle.trial.proofs.cases.rows_of.Statement.{statement}
+use Rattle.trial.proofs.cases.rows_of.Tie as tie
+
+abbrev Inv-loop : tie.InvT-loop
+Inv-loop case rows₀ k₀ rows k = (k ≤ 65) × (length rows ≡ 65)
+
+abbrev μ-loop : tie.MeasureT-loop
+μ-loop case rows₀ k₀ rows k = 65 - k
+
+row-at-requires : tie.Need-row-at-requires Inv-loop μ-loop
+row-at-requires c κs = search needs
+
+loop-holds : tie.Need-loop-holds Inv-loop μ-loop
+loop-holds c = search needs
+
+mul-row-at : tie.Need-mul-row-at Inv-loop μ-loop
+mul-row-at c = search needs
+
+row-at-requires-2 : tie.Need-row-at-requires-2 Inv-loop μ-loop
+row-at-requires-2 c κs = search needs
+
+mul-rows : tie.Need-mul-rows Inv-loop μ-loop
+mul-rows c = search needs
+
+array-set-from-rows : tie.Need-array-set-from-rows Inv-loop μ-loop
+array-set-from-rows c = search needs
+
+add-k : tie.Need-add-k Inv-loop μ-loop
+add-k c = search needs
+
+loop-less : tie.Need-loop-less Inv-loop μ-loop
+loop-less c = search needs
+
+loop-again : tie.Need-loop-again Inv-loop μ-loop
+loop-again c = search needs
+
+returns : tie.Need-returns Inv-loop μ-loop
+returns c = search needs
+
+pub rows-of-spec : {M : Type 1} → statement M
+rows-of-spec =
+    tie.close
+    (tie.spec
+    Inv-loop
+    μ-loop
+    row-at-requires
+    loop-holds
+    mul-row-at
+    row-at-requires-2
+    mul-rows
+    array-set-from-rows
+    add-k
+    loop-less
+    loop-again
+    returns)
