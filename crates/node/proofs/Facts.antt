@@ -7,7 +7,7 @@ use mathlib.Core.Path.{_≡_, refl, sym, ap, _∙_}
 use native.Mathlib.Omega.{arith}
 use borrow.Author.Tests.{lt-ltb, le-ltb, le-leb, lt-leb, eq-eqb, ne-eqb}
 use lib.Dec.{eqb, ltb, leb}
-use lib.ListN.{length, List·getD-eq-default}
+use lib.ListN.{length}
 use Rattle.table.specs.declared.Block.{Block}
 use Rattle.table.specs.declared.Epoch.{Epoch}
 use Rattle.table.specs.declared.Place.{Place}
@@ -15,7 +15,6 @@ use Rattle.table.specs.declared.rows.Found.{Found}
 use Rattle.table.specs.declared.State.{State}
 use Rattle.table.specs.Rows.{capacity, rows, size, at, hasVoter}
 use Rattle.table.proofs.Laws.{size-rows}
-use Rattle.pala.specs.Counts.{clockOf}
 use Rattle.pala.specs.Rules.{epochAt}
 use Rattle.pala.specs.Shape.{wellShaped}
 use Rattle.pala.proofs.Shapes.{shaped-count}
@@ -69,11 +68,6 @@ number e = ap (λ (q : Place). q .0) e
 -- the clock kept from a node
 pub kept-clock : {x : Epoch} {k : ℕ} → x ≡ record { 0 = k } → x .0 ≡ k
 kept-clock e = ap (λ (y : Epoch). y .0) e
-
--- no clock is kept from a number past the clocks
-pub clock-past : (clocks : List Epoch) (i n : ℕ) → length clocks ≡ n → n ≤ i → clockOf clocks i ≡ 0
-unfolding clockOf
-clock-past clocks i n e h = ap (λ (x : Epoch). x .0) (List·getD-eq-default clocks (record { 0 = 0 }) (omega arith))
 
 -- the epoch of the block that stands there
 pub epoch-there : (t : List Block) {b : Block} {p : Place} {k : ℕ} → b ≡ at t (p .0) → p ≡ record { 0 = k } → b .epoch .0 ≡ epochAt t k

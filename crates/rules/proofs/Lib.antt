@@ -1,2 +1,8 @@
-pub mod Laws
+-- What the proofs of this crate cite.
+pub mod Counts
+pub mod Cells
+pub mod Downward
+pub mod Searches
+pub mod Agreed
+pub mod Shown
 pub mod Determined

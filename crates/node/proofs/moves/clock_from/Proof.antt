@@ -2,14 +2,13 @@
 use Prim.Native.Nat.{ℕ}
 use mathlib.Core.Path.{refl, sym, ap}
 use borrow.Author.Needs.{needs}
-use Rattle.table.specs.Rows.{mostNodes}
 use Rattle.pala.specs.Counts.{clockOf}
-use Rattle.node.proofs.Facts.{clock-past}
+use Rattle.rules.proofs.Agreed.{clock-past}
 use Rattle.node.proofs.moves.clock_from.Statement.{statement}
 use Rattle.node.proofs.moves.clock_from.Tie as tie
 
 returns : tie.Need-returns
-returns c = ap (λ (k : ℕ). record { 0 = k }) (sym (clock-past _ _ mostNodes (search needs) (c .if1 .taken)))
+returns c = ap (λ (k : ℕ). record { 0 = k }) (sym (clock-past _ (search needs) _ (c .if1 .taken)))
 
 cast-i : tie.Need-cast-i
 cast-i c = search needs

@@ -7,7 +7,7 @@ use borrow.Fn.PlainCycle.{Measures, is, falls, and}
 use Rattle.table.specs.declared.Place.{Place}
 use Rattle.pala.specs.Rules.{among, fall}
 use Rattle.rules.specs.Columns.{numberAt}
-use Rattle.rules.proofs.Laws.{among-here, among-next, among-not, next-below}
+use Rattle.rules.proofs.Downward.{among-here, among-next, among-not, next-below}
 use Rattle.rules.proofs.chains.descends.Reads as descends
 use Rattle.rules.proofs.chains.descends.Kinds as descends-kinds
 use Rattle.rules.proofs.chains.+descends.Lts-descends as descends-lts

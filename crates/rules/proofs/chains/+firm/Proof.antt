@@ -7,7 +7,7 @@ use borrow.Fn.Kinds.{In}
 use borrow.Fn.PlainCycle.{Measures, is, falls, and}
 use Rattle.table.specs.declared.Place.{Place}
 use Rattle.rules.specs.Columns.{firmBy, markAt, numberAt}
-use Rattle.rules.proofs.Laws.{next-below, firm-down, firm-not, firm-zero}
+use Rattle.rules.proofs.Downward.{next-below, firm-down, firm-not, firm-zero}
 use Rattle.rules.proofs.chains.firm.Reads as firm
 use Rattle.rules.proofs.chains.firm.Kinds as firm-kinds
 use Rattle.rules.proofs.chains.+firm.Lts-firm as firm-lts

@@ -9,7 +9,7 @@ use Rattle.table.specs.declared.Epoch.{Epoch}
 use Rattle.table.specs.declared.Place.{Place}
 use Rattle.pala.specs.Rules.{lower}
 use Rattle.rules.specs.Columns.{lastNormalBy, numberAt}
-use Rattle.rules.proofs.Laws.{next-below, normal-down, normal-here, normal-zero}
+use Rattle.rules.proofs.Downward.{next-below, normal-down, normal-here, normal-zero}
 use Rattle.rules.proofs.chains.last_normal.Reads as last-normal
 use Rattle.rules.proofs.chains.last_normal.Kinds as last-normal-kinds
 use Rattle.rules.proofs.chains.+last_normal.Lts-last_normal as last-normal-lts

@@ -3,7 +3,7 @@ use Prim.Native.Nat.{_+_}
 use mathlib.Core.Path.{sym}
 use native.Mathlib.Omega.{arith}
 use borrow.Author.Tests.{ne-eqb}
-use Rattle.rules.proofs.Laws.{next-is}
+use Rattle.rules.proofs.Downward.{next-is}
 use Rattle.rules.proofs.chains.is_next.Statement.{statement}
 use Rattle.rules.proofs.chains.is_next.Tie as tie
 

@@ -12,7 +12,7 @@ use Rattle.table.specs.Rows.{mostNodes}
 use Rattle.table.proofs.Laws.{not-both}
 use Rattle.pala.specs.Counts.{clockOf, quorum}
 use Rattle.pala.specs.Rules.{shared}
-use Rattle.rules.proofs.Laws.{raised, shared-held, stays}
+use Rattle.rules.proofs.Agreed.{raised, shared-held, stays}
 use Rattle.rules.proofs.clocks.better.Statement.{statement}
 use Rattle.rules.proofs.clocks.better.Tie as tie
 

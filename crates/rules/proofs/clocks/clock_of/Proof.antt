@@ -11,7 +11,7 @@ use Rattle.table.specs.declared.Epoch.{Epoch}
 use Rattle.table.proofs.Laws.{greatest-step}
 use Rattle.pala.specs.Counts.{clockOf}
 use Rattle.pala.specs.Rules.{shared}
-use Rattle.rules.proofs.Laws.{agreed-held, best-of}
+use Rattle.rules.proofs.Agreed.{agreed-held, best-of}
 use Rattle.rules.proofs.clocks.clock_of.Statement.{statement}
 use Rattle.rules.proofs.clocks.clock_of.Tie as tie
 

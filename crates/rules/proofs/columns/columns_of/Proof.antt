@@ -11,7 +11,8 @@ use Rattle.table.specs.Rows.{at, rows, votes}
 use Rattle.table.proofs.Laws.{length-unmap, size-rows}
 use Rattle.pala.specs.Counts.{quorum}
 use Rattle.rules.specs.Columns.{places}
-use Rattle.rules.proofs.Laws.{column-start, column-step, columns-made, length-made, made}
+use Rattle.rules.proofs.Cells.{length-made, made}
+use Rattle.rules.proofs.Shown.{column-start, column-step, columns-made}
 use Rattle.rules.proofs.columns.columns_of.Statement.{statement}
 use Rattle.rules.proofs.columns.columns_of.Tie as tie
 

@@ -1,7 +1,7 @@
 -- A place past the column is the root's. Assumes nothing.
 use native.Mathlib.Omega.{arith}
 use borrow.Author.Needs.{needs}
-use Rattle.rules.proofs.Laws.{cell-in, cell-past}
+use Rattle.rules.proofs.Cells.{cell-in, cell-past}
 use Rattle.rules.proofs.columns.number_at.Statement.{statement}
 use Rattle.rules.proofs.columns.number_at.Tie as tie
 

@@ -1,6 +1,6 @@
 -- Three votes for every two nodes. Assumes nothing.
 use borrow.Author.Needs.{needs}
-use Rattle.rules.proofs.Laws.{enough-is}
+use Rattle.rules.proofs.Counts.{enough-is}
 use Rattle.rules.proofs.quorum.enough.Statement.{statement}
 use Rattle.rules.proofs.quorum.enough.Tie as tie
 

@@ -7,7 +7,7 @@ use borrow.Author.Needs.{needs}
 use borrow.Author.Count.{below-more}
 use Rattle.table.proofs.Laws.{lowest-is, lowest-none}
 use Rattle.rules.specs.Columns.{markAt, numberAt, openBy}
-use Rattle.rules.proofs.Laws.{votable-not, votable-open, votable-voted}
+use Rattle.rules.proofs.Searches.{votable-not, votable-open, votable-voted}
 use Rattle.rules.proofs.scans.ballot_of.Statement.{statement}
 use Rattle.rules.proofs.scans.ballot_of.Tie as tie
 

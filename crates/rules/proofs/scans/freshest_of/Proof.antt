@@ -7,7 +7,7 @@ use borrow.Author.Tests.{lt-ltb, le-ltb, not-true, not-false}
 use Rattle.table.specs.declared.Epoch.{Epoch}
 use Rattle.table.proofs.Laws.{not-both, pick-no, pick-yes}
 use Rattle.rules.specs.Columns.{firmBy, freshestBy, markAt, numberAt}
-use Rattle.rules.proofs.Laws.{joined, joined-end, joined-passed, joined-start, joined-taken}
+use Rattle.rules.proofs.Searches.{joined, joined-end, joined-passed, joined-start, joined-taken}
 use Rattle.rules.proofs.scans.freshest_of.Statement.{statement}
 use Rattle.rules.proofs.scans.freshest_of.Tie as tie
 

@@ -6,7 +6,7 @@ use Rattle.table.specs.declared.Epoch.{Epoch}
 use Rattle.table.specs.declared.Place.{Place}
 use Rattle.pala.specs.Rules.{lower}
 use Rattle.rules.specs.Columns.{firmBy, markAt, numberAt}
-use Rattle.rules.proofs.Laws.{open-barred, open-firm, open-other}
+use Rattle.rules.proofs.Searches.{open-barred, open-firm, open-other}
 use Rattle.rules.proofs.scans.open_to_vote.Statement.{statement}
 use Rattle.rules.proofs.scans.open_to_vote.Tie as tie
 

@@ -5,7 +5,7 @@ use borrow.Author.Needs.{needs}
 use lib.ListN.{length}
 use Rattle.table.proofs.Laws.{length-unmap}
 use Rattle.rules.specs.Columns.{places}
-use Rattle.rules.proofs.Laws.{freshest-shown}
+use Rattle.rules.proofs.Shown.{freshest-shown}
 use Rattle.rules.proofs.steps.freshest.Statement.{statement}
 use Rattle.rules.proofs.steps.freshest.Tie as tie
 

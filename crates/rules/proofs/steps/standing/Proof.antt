@@ -4,7 +4,7 @@ use borrow.Author.Needs.{needs}
 use lib.ListN.{length}
 use Rattle.table.proofs.Laws.{length-unmap}
 use Rattle.rules.specs.Columns.{places}
-use Rattle.rules.proofs.Laws.{standing-shown}
+use Rattle.rules.proofs.Shown.{standing-shown}
 use Rattle.rules.proofs.steps.standing.Statement.{statement}
 use Rattle.rules.proofs.steps.standing.Tie as tie
 

@@ -1,0 +1,71 @@
+-- The agreed clock, clock by clock. Assumes nothing.
+use Prim.Native.Nat.{ℕ, zero, suc, _+_, _≤_, _<_, max, min}
+use mathlib.Core.Bool.{Bool, true}
+use mathlib.Core.List.{List}
+use mathlib.Core.Path.{_≡_, sym, ap, _∙_}
+use native.Mathlib.Decide.{decLe}
+use native.Mathlib.Numerals.{add-one}
+use native.Mathlib.Omega.{arith}
+use borrow.Author.Tests.{ne-eqb}
+use lib.Dec.{eqb, leb}
+use lib.ListN.{length, List·getD-eq-default}
+use Rattle.table.specs.declared.Epoch.{Epoch}
+use Rattle.table.specs.Scan.{pick, count, greatest}
+use Rattle.table.specs.Rows.{mostNodes}
+use Rattle.table.proofs.Laws.{pick-yes, pick-case, count-no, greatest-step}
+use Rattle.pala.specs.Counts.{quorum, clockOf}
+use Rattle.pala.specs.Rules.{shared, agreed}
+
+-- ---- the clocks
+
+-- what changes no more from m on is settled there
+settles : (F : ℕ → ℕ) (m : ℕ) → ((i : ℕ) → m ≤ i → F (i + 1) ≡ F i) → (k : ℕ) → m ≤ k → F k ≡ F m
+settles F m same zero h = ap F (omega arith)
+settles F m same (suc k) h =
+    elim (decLe m k) [
+      | yes l ↦ ap F (sym (add-one k)) ∙ same k l ∙ settles F m same k l
+      | no l ↦ ap F (omega arith)
+    ]
+
+settled : (F : ℕ → ℕ) (m : ℕ) → ((i : ℕ) → m ≤ i → F (i + 1) ≡ F i) → (k : ℕ) → F (min k m) ≡ F k
+settled F m same k =
+    elim (decLe m k) [
+      | yes l ↦ ap F (omega arith) ∙ sym (settles F m same k l)
+      | no l ↦ ap F (omega arith)
+    ]
+
+module _ (clocks : List Epoch) (held : length clocks ≡ mostNodes) where
+  -- a number past the clocks has the clock 0
+  pub clock-past : (i : ℕ) → mostNodes ≤ i → clockOf clocks i ≡ 0
+  unfolding clockOf
+  clock-past i h = ap (λ (e : Epoch). e .0) (List·getD-eq-default clocks (record { 0 = 0 }) (omega arith))
+
+  pub shared-held : (n c : ℕ) → 0 < c → leb (quorum n) (count (min n mostNodes) (λ i. eqb (clockOf clocks i) c)) ≡ shared n clocks c
+  unfolding shared
+  shared-held n c h =
+      let has : ℕ → Bool = λ i. eqb (clockOf clocks i) c in
+      ap (leb (quorum n))
+      (settled (λ (k : ℕ). count k has) mostNodes
+      (λ i l. count-no i has (ne-eqb (clockOf clocks i) c (λ e. omega (arith, clock-past i l)))) n)
+
+  pub agreed-held : (n : ℕ) → greatest (min n mostNodes) (λ i. shared n clocks (clockOf clocks i)) (clockOf clocks) ≡ agreed n clocks
+  unfolding agreed
+  agreed-held n =
+      let ok : ℕ → Bool = λ i. shared n clocks (clockOf clocks i) in
+      settled (λ (k : ℕ). greatest k ok (clockOf clocks)) mostNodes
+      (λ i l.
+      let z : clockOf clocks i ≡ 0 = clock-past i l in
+      greatest-step i ok (clockOf clocks)
+      ∙ pick-case (λ (x : ℕ). max (greatest i ok (clockOf clocks)) x ≡ greatest i ok (clockOf clocks)) (ok i) (clockOf clocks i) 0
+      (λ e. omega arith) (λ e. omega arith)) n
+
+-- the best of a start, of what came before and of one more
+pub best-of : (start before best more next after : ℕ) → best ≡ max start before → next ≡ max best more → after ≡ max before more → next ≡ max start after
+best-of start before best more next after a b c = omega arith
+
+-- a clock that is no greater than the best, or isn't shared, leaves it
+pub stays : (best c : ℕ) (b : Bool) → (b ≡ true → c ≤ best) → max best (pick b c 0) ≡ best
+stays best c b h = pick-case (λ (x : ℕ). max best x ≡ best) b c 0 (λ e. omega (arith, h e)) (λ e. omega arith)
+
+pub raised : (best c : ℕ) (b : Bool) → b ≡ true → best < c → max best (pick b c 0) ≡ c
+raised best c b y h = ap (λ (x : ℕ). max best x) (pick-yes b c 0 y) ∙ omega arith
