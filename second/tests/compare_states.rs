@@ -1,39 +1,18 @@
 //! The commands that hand states in, as they are called.
 
+mod programs;
+
 use std::io::Write;
-use std::path::PathBuf;
-use std::process::{Command, Output, Stdio};
+use std::process::{Command, Stdio};
+
+use programs::{printed, second, SECOND};
 
 use second::trials::cases::{case, write_cases};
 use second::trials::wire::{Case, Reply};
 
-const SECOND: &str = env!("CARGO_BIN_EXE_second");
-
-fn second(words: &[&str]) -> Output {
-    let mut command = Command::new(SECOND);
-    command.env("TMPDIR", env!("CARGO_TARGET_TMPDIR"));
-    command.args(words).output().unwrap()
-}
-
-fn printed(output: &Output) -> &str {
-    std::str::from_utf8(&output.stdout).unwrap()
-}
-
-/// A program that steps cases and then changes the replies. A shell writes it, as
-/// a file that a test still writes can't be run by another.
+/// A program that runs `step-cases` and then changes what it writes.
 fn program(name: &str, change: &str) -> String {
-    let path = PathBuf::from(env!("CARGO_TARGET_TMPDIR")).join(name);
-    let path = path.to_str().unwrap().to_owned();
-    let mut shell = Command::new("sh")
-        .args(["-c", "cat > \"$0\" && chmod +x \"$0\"", &path])
-        .stdin(Stdio::piped())
-        .spawn()
-        .unwrap();
-    let mut stdin = shell.stdin.take().unwrap();
-    write!(stdin, "#!/bin/sh\n\"{SECOND}\" step-cases {change}\n").unwrap();
-    drop(stdin);
-    assert!(shell.wait().unwrap().success());
-    path
+    programs::program(name, "step-cases", change)
 }
 
 #[test]

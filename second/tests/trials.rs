@@ -1,8 +1,11 @@
 //! The commands that compare, script and time, as they are called.
 
+mod programs;
+
 use std::io::Write;
-use std::path::PathBuf;
-use std::process::{Command, Output, Stdio};
+use std::process::{Command, Stdio};
+
+use programs::{printed, second, SECOND};
 
 use second::record::RECORD_LEN;
 use second::state::MAX_BLOCKS;
@@ -11,33 +14,9 @@ use second::trials::load::{load, write_long};
 use second::trials::script::{print_answers, write_script};
 use second::{step_shaped, State};
 
-const SECOND: &str = env!("CARGO_BIN_EXE_second");
-
-fn second(words: &[&str]) -> Output {
-    let mut command = Command::new(SECOND);
-    command.env("TMPDIR", env!("CARGO_TARGET_TMPDIR"));
-    command.args(words).output().unwrap()
-}
-
-fn printed(output: &Output) -> &str {
-    std::str::from_utf8(&output.stdout).unwrap()
-}
-
-/// A program that plays a recording and then changes the lines. A shell writes
-/// it, as a file that a test still writes can't be run by another.
+/// A program that runs `replay` and then changes what it writes.
 fn program(name: &str, change: &str) -> String {
-    let path = PathBuf::from(env!("CARGO_TARGET_TMPDIR")).join(name);
-    let path = path.to_str().unwrap().to_owned();
-    let mut shell = Command::new("sh")
-        .args(["-c", "cat > \"$0\" && chmod +x \"$0\"", &path])
-        .stdin(Stdio::piped())
-        .spawn()
-        .unwrap();
-    let mut stdin = shell.stdin.take().unwrap();
-    write!(stdin, "#!/bin/sh\n\"{SECOND}\" replay {change}\n").unwrap();
-    drop(stdin);
-    assert!(shell.wait().unwrap().success());
-    path
+    programs::program(name, "replay", change)
 }
 
 #[test]
