@@ -1,19 +1,18 @@
 -- What a run answers: "3 .. 15 .. lowest first", or the final list of the last state. Assumes nothing.
-use Prim.Native.Nat.{ℕ, _+_, _*_, _%_, _≤_, _<_}
+use Prim.Native.Nat.{ℕ, _%_, _≤_, _<_}
 use mathlib.Core.Bool.{Bool, true, false, not, _||_, or-true}
-use mathlib.Core.List.{List, [], _∷_}
-use mathlib.Core.Path.{_≡_, refl, sym, ap, _∙_}
+use mathlib.Core.List.{List}
+use mathlib.Core.Path.{_≡_, ap, _∙_}
 use borrow.Author.Tests.{lt-ltb, le-ltb, eq-eqb, ne-eqb}
 use lib.Dec.{eqb, ltb}
 use lib.ListN.{length}
 use native.Mathlib.Nat.{zero-add}
 use Rattle.table.specs.declared.Answer.{Answer}
-use Rattle.table.specs.declared.State.{State}
 use Rattle.table.specs.Scan.{pick}
 use Rattle.table.proofs.Laws.{pick-yes, pick-no}
 use Rattle.pala.specs.Answers.{number, taken, lowestOf}
 use Rattle.pala.specs.Counts.{nodes}
-use Rattle.pala.specs.Lists.{Listed, finalList}
+use Rattle.pala.specs.Lists.{finalList}
 use Rattle.pala.specs.Record.{recordBytes}
 use Rattle.pala.specs.Run.{Ran, run, ran, runAnswer, runCode, fullList, played, stretches}
 use Rattle.pala.specs.Step.{start}

@@ -1,8 +1,10 @@
 // A run: "each 96-byte stretch is used where it stands".
 
 use lists::finals::final_list_shaped;
+use node::answers::is_taken;
+use node::decide_shaped;
 use node::start;
-use node::step_shaped;
+use node::take_shaped;
 use shape::nodes;
 use table::NodeNo;
 use table::State;
@@ -10,9 +12,8 @@ ghost use Prim.Native.Nat.{_%_};
 ghost use mathlib.Core.Bool.{true};
 ghost use mathlib.Core.Path.{_≡_};
 ghost use lib.ListN.{length};
-ghost use Rattle.pala.specs.Run.{Ran, run, played, stretches, lent};
+ghost use Rattle.pala.specs.Run.{Ran, run, played, stretches};
 ghost use Rattle.pala.specs.Shape.{wellShaped};
-ghost use Rattle.pala.specs.Step.{step};
 
 const RECORD_BYTES: usize = 96;
 // "list buffer under 2,048 bytes"
@@ -22,17 +23,7 @@ const LENGTH_REFUSED: u64 = 3 * 65536;
 
 const SETUP_REFUSED: u64 = 15 * 65536;
 
-// One record put to a state; what it would send is dropped.
-fn advance(s: State, rec: &[u8]) -> State
-    requires { ⌜ wellShaped s ≡ true ⌝ }
-    ensures { λ r. ⌜ (r ≡ step s (now (rec .entry)) lent .state) × (wellShaped r ≡ true) ⌝ }
-{
-    let mut out = [0u8; RECORD_BYTES];
-    let reply = step_shaped(s, rec, &mut out);
-    reply.state
-}
-
-// The state after every record has been put to the newest one; refused records are passed over.
+// The state after every record has been put to the newest one: "Refused records are passed over", and make no new state.
 fn play(s: State, records: &[u8]) -> State
     requires { ⌜ (wellShaped s ≡ true) × (length (now records) % 96 ≡ 0) ⌝ }
     ensures { λ r. ⌜ (r ≡ played s (stretches (now (records .entry)))) × (wellShaped r ≡ true) ⌝ }
@@ -40,7 +31,11 @@ fn play(s: State, records: &[u8]) -> State
     let mut t = s;
     let mut from: usize = 0;
     while from < records.len() {
-        t = advance(t, &records[from..from + RECORD_BYTES]);
+        let d = decide_shaped(t, &records[from..from + RECORD_BYTES]);
+        let told = d.answer;
+        if is_taken(told) {
+            t = take_shaped(t, d);
+        }
         from += RECORD_BYTES;
     }
     t

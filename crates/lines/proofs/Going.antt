@@ -5,7 +5,7 @@ use mathlib.Core.Path.{_≡_, refl, sym, ap, _∙_}
 use native.Mathlib.Nat.{zero-add}
 use native.Mathlib.Numerals.{add-one}
 use native.Mathlib.Omega.{arith}
-use lib.ListN.{length, take, drop, drop-of-length-le}
+use lib.ListN.{length, drop, drop-of-length-le}
 use Rattle.table.specs.declared.Answer.{Answer}
 use Rattle.table.specs.declared.State.{State}
 use Rattle.table.specs.Scan.{pick}
@@ -14,10 +14,11 @@ use Rattle.pala.specs.Lines.{lineOf, lines}
 use Rattle.pala.specs.Record.{recordBytes}
 use Rattle.pala.specs.Run.{stretches, played, lent}
 use Rattle.pala.specs.Step.{step}
-use Rattle.pala.proofs.Stretches.{stretches-none, next-stretch}
-use Rattle.lines.specs.Play.{Piece, Recorded, piece, lastNumber}
+use Rattle.pala.proofs.Stretches.{stretches-none, part, next-stretch}
+use Rattle.lines.specs.Play.{Piece, piece, lastNumber}
 use Rattle.lines.specs.Text.{Put, lineMost}
 use Rattle.lines.proofs.Laws.{put-then, put-as, put-length, written-none}
+use Rattle.lines.proofs.Records.{Recorded}
 
 -- at an index of the input: `done` is written, and what is left of the input gives the rest
 pub record Going (s : State) (before : ℕ) (input text₀ : List ℕ) (t : State) (k from end : ℕ) (text : List ℕ) : Type 0 where
@@ -29,7 +30,7 @@ pub record Going (s : State) (before : ℕ) (input text₀ : List ℕ) (t : Stat
   pub states : played t (stretches (drop from input)) ≡ played s (stretches input)
   pub texts : done ++ lines t k (stretches (drop from input)) ≡ lines s before (stretches input)
 
-module _ (s : State) (before : ℕ) (input text₀ : List ℕ) where
+module _ {s : State} {before : ℕ} {input text₀ : List ℕ} where
   pub going-start : lineMost * length (stretches input) ≤ length text₀ → Going s before input text₀ s before 0 0 text₀
   going-start room =
       record {
@@ -42,13 +43,13 @@ module _ (s : State) (before : ℕ) (input text₀ : List ℕ) where
         texts = refl;
       }
 
-  module _ (t : State) (k from end : ℕ) (text : List ℕ) (g : Going s before input text₀ t k from end text) where
+  module _ {t : State} {k from end : ℕ} {text : List ℕ} (g : Going s before input text₀ t k from end text) where
     pub going-next :
-        (u : State) (size end′ : ℕ) (text′ : List ℕ) → from < length input → size ≡ min (length input - from) recordBytes
-        → Recorded t (k + 1) (take size (drop from input)) text end u end′ text′ → Going s before input text₀ u (k + 1) (from + size) end′ text′
+        {u : State} {size end′ : ℕ} {text′ : List ℕ} → from < length input → size ≡ min (length input - from) recordBytes
+        → Recorded t (k + 1) (part input from size) text end u end′ text′ → Going s before input text₀ u (k + 1) (from + size) end′ text′
     unfolding played lines
-    going-next u size end′ text′ l e r =
-        let rec : List ℕ = take size (drop from input) in
+    going-next {u} {size} l e r =
+        let rec : List ℕ = part input from size in
         let rest : List (List ℕ) = stretches (drop (from + size) input) in
         let parts : stretches (drop from input) ≡ rec ∷ rest = next-stretch input from size l e in
         let many : length (stretches (drop from input)) ≡ suc (length rest) = ap length parts in

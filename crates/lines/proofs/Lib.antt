@@ -1,4 +1,5 @@
 pub mod Laws
+pub mod Turns
 pub mod Records
 pub mod Going
 pub mod Answered

@@ -1,7 +1,7 @@
 -- A piece of a recording played: what is answered, the state and the record number it leaves, the text of its lines.
 use Prim.Native.Nat.{ℕ, _+_, _*_, _≤_}
 use mathlib.Core.Path.{_≡_}
-use mathlib.Core.Bool.{Bool, true, not}
+use mathlib.Core.Bool.{true, not}
 use mathlib.Core.List.{List, [], _∷_}
 use lib.Dec.{ltb}
 use lib.ListN.{length}
@@ -9,11 +9,10 @@ use Rattle.table.specs.declared.Answer.{Answer}
 use Rattle.table.specs.declared.State.{State}
 use Rattle.table.specs.Scan.{pick}
 use Rattle.pala.specs.Answers.{taken, lowestOf}
-use Rattle.pala.specs.Lines.{lineOf, lines}
-use Rattle.pala.specs.Run.{stretches, played, lent}
+use Rattle.pala.specs.Lines.{lines}
+use Rattle.pala.specs.Run.{stretches, played}
 use Rattle.pala.specs.Shape.{wellShaped}
-use Rattle.pala.specs.Step.{step}
-use Rattle.lines.specs.Text.{written, Put, lineMost}
+use Rattle.lines.specs.Text.{written, lineMost}
 
 -- the last record number that can be printed
 abbrev pub lastNumber : ℕ
@@ -52,13 +51,6 @@ piece a s before input text =
 unfoldable pub playPiece : State → ℕ → List ℕ → List ℕ → Piece
 unfolding piece pieceAnswer
 playPiece s before input text = piece (pieceAnswer s before input text) s before input text
-
--- one record played: the state after it, which keeps the shape, and its line, which is no longer than the longest, put into the text
-pub record Recorded (s : State) (k : ℕ) (r text : List ℕ) (end : ℕ) (t : State) (past : ℕ) (after : List ℕ) : Type 0 where
-  pub state : t ≡ step s r lent .state
-  pub shaped : wellShaped t ≡ true
-  pub line : Put text end (lineOf k (step s r lent .answer) (step s r lent .state)) past after
-  pub short : past ≤ end + lineMost
 
 -- a piece that none of the three refuses
 pub record Ready (s : State) (before : ℕ) (input text : List ℕ) : Type 0 where

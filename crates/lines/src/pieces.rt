@@ -2,18 +2,21 @@
 
 use crate::text::put_line;
 use lists::finals::final_count;
+use node::answers::is_taken;
 use node::answers::number_of;
-use node::step_shaped;
+use node::decide_shaped;
+use node::take_shaped;
 use shape::well_shaped;
 use table::Answer;
+use table::Place;
 use table::State;
-ghost use Prim.Native.Nat.{_+_, _*_, _≤_, _/_, _<_, min};
-ghost use mathlib.Core.Bool.{true};
+ghost use Prim.Native.Nat.{_+_, _/_, _<_, min};
 ghost use mathlib.Core.Path.{_≡_};
+ghost use lib.Dec.{eqb};
 ghost use lib.ListN.{length};
-ghost use Rattle.pala.specs.Shape.{wellShaped};
-ghost use Rattle.lines.specs.Play.{Piece, Ready, Recorded, piece, playPiece};
-ghost use Rattle.lines.specs.Text.{lineMost};
+ghost use Rattle.table.specs.Scan.{pick};
+ghost use Rattle.pala.specs.Lists.{finalNames};
+ghost use Rattle.lines.specs.Play.{Piece, Ready, piece, playPiece};
 
 const RECORD_BYTES: usize = 96;
 // The longest line, and the last number of a record that can be printed.
@@ -29,12 +32,6 @@ pub struct Played {
     pub length: usize,
 }
 
-// The state after a record, and the index past its line.
-struct After {
-    state: State,
-    end: usize,
-}
-
 // A number of 32 bits among those of 64.
 fn wide(x: u32) -> u64
     ensures { λ r. ⌜ (r ≡ x) × (r < 4294967296) ⌝ }
@@ -42,24 +39,14 @@ fn wide(x: u32) -> u64
     x as u64
 }
 
-// One record played and its line put.
-fn put_record(s: State, k: u64, rec: &[u8], text: &mut [u8], end: usize) -> After
-    requires { ⌜ (wellShaped s ≡ true) × (end + lineMost ≤ length (now text)) ⌝ }
-    ensures { λ r. ⌜ Recorded s k (now (rec .entry)) (now (text .entry)) end (r .state) (r .end) (now (text .exit)) ⌝ }
+// "length of the final list", counted anew only where another final block is kept than before.
+fn names_after(t: State, kept: Place, names: u32) -> u32
+    ensures { λ r. ⌜ r ≡ pick (eqb (t .kept .0) (kept .0)) names (length (finalNames t)) ⌝ }
 {
-    let mut out = [0u8; RECORD_BYTES];
-    let reply = step_shaped(s, rec, &mut out);
-    let t = reply.state;
-    let told = reply.answer;
-    let answer = wide(number_of(told));
-    let local = wide(t.local.0);
-    let bar = wide(t.bar.0);
-    let names = wide(final_count(t));
-    let past = put_line(text, end, k, answer, local, bar, names);
-    After {
-        state: t,
-        end: past,
+    if t.kept.0 == kept.0 {
+        return names;
     }
+    final_count(t)
 }
 
 // "Each 96-byte stretch", the last as long as what is left.
@@ -85,7 +72,7 @@ fn stretch_count(length: usize) -> usize
     }
 }
 
-// The loop over a piece's records.
+// The loop over a piece's records: each is decided first, and only a taken one makes a new state.
 fn play_records(s: State, before: u64, input: &[u8], text: &mut [u8]) -> Played
     requires { ⌜ Ready s before (now input) (now text) ⌝ }
     ensures { λ r. ⌜ _≡_ {A = Piece} (record { answer = r .answer; state = r .state; before = r .before; length = r .length; text = now (text .exit) }) (piece Answer.Taken s before (now (input .entry)) (now (text .entry))) ⌝ }
@@ -94,13 +81,21 @@ fn play_records(s: State, before: u64, input: &[u8], text: &mut [u8]) -> Played
     let mut k = before;
     let mut from: usize = 0;
     let mut end: usize = 0;
+    let mut names = final_count(t);
     while from < input.len() {
         let size = stretch(input.len() - from);
         k += 1;
-        let done = put_record(t, k, &input[from..from + size], text, end);
-        let u = done.state;
-        t = u;
-        end = done.end;
+        let d = decide_shaped(t, &input[from..from + size]);
+        let told = d.answer;
+        if is_taken(told) {
+            let kept = t.kept;
+            t = take_shaped(t, d);
+            names = names_after(t, kept, names);
+        }
+        let answer = wide(number_of(told));
+        let local = wide(t.local.0);
+        let bar = wide(t.bar.0);
+        end = put_line(text, end, k, answer, local, bar, wide(names));
         from += size;
     }
     Played {

@@ -1,6 +1,6 @@
 -- Which rows can apply to a record of each kind, in the words of its fields and in the order in which the code tests them.
 -- An "or" stands as two rows with the same answer. Assumes nothing.
-use Prim.Native.Nat.{ℕ, suc, _+_}
+use Prim.Native.Nat.{ℕ, suc}
 use mathlib.Core.Bool.{Bool, true, false, not, _&&_, _||_, or-false}
 use mathlib.Core.List.{List, [], _∷_}
 use mathlib.Core.Path.{_≡_, refl, sym, subst, _∙_}
@@ -14,7 +14,7 @@ use Rattle.table.specs.Scan.{pick}
 use Rattle.table.specs.Rows.{rows, size, at, find, hasVoter}
 use Rattle.pala.specs.Counts.{topEpoch, clockOf}
 use Rattle.pala.specs.Record.{kindOf, proposalHeard, voteHeard, clockHeard, proposeNow, castNow, minuteUp, knownKind, heard}
-use Rattle.pala.specs.Rules.{epochAt, freshest, ballot}
+use Rattle.pala.specs.Rules.{epochAt, freshest}
 use Rattle.pala.specs.Answers.{lowestOf, shapedRows, badSender, badEpoch, badName, unknown, badOrder, badTurn, proposer, repeats, nothing, full}
 use Rattle.pala.specs.Effects.{picked}
 use Rattle.pala.specs.Step.{room}

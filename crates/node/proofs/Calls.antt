@@ -142,11 +142,11 @@ module _ (s : State) (r : List ℕ) where
     decided-answer = sym (ap (λ (o : Outcome). o .answer) (step-is s r lent h))
 
     -- "Otherwise .. state and out buffer come back the same"
-    pub decided-same : taken (decision s r .answer) ≡ false → step s r lent .state ≡ s
+    pub decided-same : {d : Decision} → d ≡ decision s r → taken (d .answer) ≡ false → step s r lent .state ≡ s
     unfolding decision moveBy stepShaped outcome
-    decided-same t =
+    decided-same e t =
         ap (λ (o : Outcome). o .state) (step-is s r lent h)
-        ∙ pick-no (taken (lowestOf (shapedRows room s r lent))) (settled (effect s r)) s t
+        ∙ pick-no (taken (lowestOf (shapedRows room s r lent))) (settled (effect s r)) s (ap (λ (x : Decision). taken (x .answer)) (sym e) ∙ t)
 
     -- "First the direct effect. Then, always in this order"
     pub decided-taken : {d : Decision} → d ≡ decision s r → taken (d .answer) ≡ true → settled (effect s r) ≡ step s r lent .state

@@ -5,7 +5,6 @@ use mathlib.Core.List.{List, [], _∷_}
 use mathlib.Core.Path.{_≡_, refl, sym, ap, _∙_}
 use lib.ListN.{drop}
 use Rattle.table.specs.declared.Answer.{Answer}
-use Rattle.table.specs.declared.Place.{Place}
 use Rattle.table.specs.Scan.{pick}
 use Rattle.table.proofs.Laws.{pick-yes, pick-no}
 use Rattle.pala.specs.Answers.{taken, lowestOf}

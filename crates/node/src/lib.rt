@@ -107,7 +107,7 @@ pub fn take_shaped(s: State, d: Decision) -> State
 }
 
 // A call on a well-shaped state.
-pub fn step_shaped(s: State, rec: &[u8], out: &mut [u8]) -> Reply
+fn step_shaped(s: State, rec: &[u8], out: &mut [u8]) -> Reply
     requires { ⌜ wellShaped s ≡ true ⌝ }
     ensures { λ r. ⌜ record { answer = r .answer; state = r .state; out = now (out .exit) } ≡ stepShaped room s (now (rec .entry)) (now (out .entry)) ⌝ }
 {

@@ -66,10 +66,6 @@ pub any-lent : (s : State) (r out : List ℕ) → length out ≡ recordBytes →
 unfolding lent
 any-lent s r out e = step-any-out s r out lent e (length-replicate {A = ℕ} recordBytes 0) .0
 
--- .. and a loop over well-shaped states does what `played` says
-pub step-lent : (s : State) (r out : List ℕ) → wellShaped s ≡ true → length out ≡ recordBytes → stepShaped room s r out .state ≡ step s r lent .state
-step-lent s r out h e = ap (λ (o : Outcome). o .state) (sym (step-is s r out h)) ∙ any-lent s r out e
-
 -- ---- the all-zero state
 
 pub zero-unshaped : wellShaped allZero ≡ false
@@ -120,8 +116,11 @@ start-shaped n own h = ap wellShaped (pick-yes (nodes n own) (fresh n own) allZe
 -- ---- a run
 
 -- a call refuses and leaves the state as it was, or takes the record
+pub step-stepped : (s : State) (r out : List ℕ) → length (s .blocks) ≡ suc capacity → wellShaped s ≡ true → Stepped room s r out (step s r out)
+step-stepped s r out places h = subst (Stepped room s r out) (sym (step-is s r out h)) (step-did s places h r out)
+
 pub call-did : (s : State) (r out : List ℕ) → Proper s → Stepped room s r out (step s r out)
-call-did s r out k = subst (Stepped room s r out) (sym (step-is s r out (k .shaped))) (step-did s (k .sized .blocks) (k .shaped) r out)
+call-did s r out k = step-stepped s r out (k .sized .blocks) (k .shaped)
 
 -- .. and keeps what a call needs
 pub call-keeps : (s : State) (r out : List ℕ) → Proper s → Proper (step s r out .state)

@@ -21,7 +21,7 @@ use Rattle.pala.specs.Shape.{votersOk, blockOk, isBlank, wellShaped}
 use Rattle.pala.specs.Effects.{laid, withBlock, withVote, withClock, effect}
 use Rattle.pala.specs.Steps.{newLocal, newKept, forward, settled}
 use Rattle.pala.specs.Step.{stepShaped, room}
-use Rattle.pala.proofs.Grown.{Grown, grown-epoch, grown-append, grown-vote, at-append, at-last, at-vote, voter-was, laid-other, size-held, rows-block, rows-vote, length-block, length-vote}
+use Rattle.pala.proofs.Grown.{Grown, grown-epoch, grown-same, grown-append, grown-vote, at-append, at-last, at-vote, voter-was, laid-other, size-held, rows-block, rows-vote, rows-clock, length-block, length-vote}
 use Rattle.pala.proofs.Shapes.{block-name, block-apart, block-parent, block-parent-epoch, block-epoch, block-voter, block-voters, block-of, voters-of, shaped-nodes, shaped-count, shaped-kept, shaped-local, shaped-clock, shaped-block, shaped-blank, shaped-of}
 use Rattle.pala.proofs.Places.{candidate-in, votable-parts}
 use Rattle.pala.proofs.Sized.{Sized, sized-block, sized-vote, sized-clock, sized-settled}
@@ -185,6 +185,14 @@ module _ (s : State) (places : length (s .blocks) ≡ suc capacity) (h : wellSha
   did-shaped (cast kind l v e) = ap wellShaped e ∙ shaped-vote-more s places h _ _ _ (votable-parts _ _ _ _ _ _ v .above) l below-own
   did-shaped (clocked i c k2 k5 below e) = ap wellShaped e ∙ shaped-clock-more s places h i c below
 
+  -- the table only grows
+  pub did-grows : {r : List ℕ} {u : State} → Did room s r u → Grown (rows s) (rows u)
+  did-grows (added b proposed kind w l e) =
+      subst (Grown (rows s)) (sym (ap rows e ∙ rows-added s places h b proposed (not-full (s .count) l))) (grown-append (rows s) b)
+  did-grows (counted kind pos l below other e) = subst (Grown (rows s)) (sym (ap rows e ∙ rows-voted s places h _ _ _ l)) (grown-vote (rows s) _ _ l)
+  did-grows (cast kind l v e) = subst (Grown (rows s)) (sym (ap rows e ∙ rows-voted s places h _ _ _ l)) (grown-vote (rows s) _ _ l)
+  did-grows (clocked i c k2 k5 below e) = subst (Grown (rows s)) (sym (ap rows e ∙ rows-clock s i c)) (grown-same (rows s))
+
   did-sized : {r : List ℕ} {u : State} → Sized s → Did room s r u → Sized u
   did-sized z (added b proposed kind w l e) = subst Sized (sym e) (sized-block s z b proposed (w .sized) (not-full (s .count) l))
   did-sized z (counted kind pos l below other e) = subst Sized (sym e) (sized-vote s z _ _ _ (low s places h l) (shaped-count s h))
@@ -198,6 +206,14 @@ step-shaped s r out places h = go (step-did s places h r out)
     go : Stepped room s r out (stepShaped room s r out) → wellShaped (stepShaped room s r out .state) ≡ true
     go (refused a e) = ap wellShaped e ∙ h
     go (took a p d e) = ap wellShaped e ∙ shaped-settled (effect s r) (did-places s places h d) (did-shaped s places h d)
+
+pub step-places : (s : State) (r out : List ℕ) → length (s .blocks) ≡ suc capacity → wellShaped s ≡ true → length (stepShaped room s r out .state .blocks) ≡ suc capacity
+unfolding settled
+step-places s r out places h = go (step-did s places h r out)
+  where
+    go : Stepped room s r out (stepShaped room s r out) → length (stepShaped room s r out .state .blocks) ≡ suc capacity
+    go (refused a e) = ap (λ (x : State). length (x .blocks)) e ∙ places
+    go (took a p d e) = ap (λ (x : State). length (x .blocks)) e ∙ did-places s places h d
 
 pub step-sized : (s : State) (r out : List ℕ) → Sized s → wellShaped s ≡ true → Sized (stepShaped room s r out .state)
 step-sized s r out z h = go (step-did s (z .blocks) h r out)

@@ -16,5 +16,8 @@ pub mod Sent
 pub mod Calls
 -- a recording in pieces
 pub mod Stretches
+-- the names of a final list, and records played in a loop
+pub mod Finals
+pub mod Playing
 -- demand 3
 pub mod Demand

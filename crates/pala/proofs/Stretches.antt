@@ -1,21 +1,16 @@
 -- A recording in pieces: its stretches, and the lines of one piece after another. Assumes nothing.
-use Prim.Native.Nat.{ℕ, zero, suc, _+_, _-_, _*_, _/_, _%_, _≤_, _<_, min}
+use Prim.Native.Nat.{ℕ, zero, suc, _+_, _-_, _*_, _/_, _≤_, _<_, min}
 use mathlib.Core.List.{List, [], _∷_, _++_, append-assoc}
-use mathlib.Core.Bool.{true}
-use mathlib.Core.Path.{_≡_, refl, sym, ap, _∙_, subst}
+use mathlib.Core.Path.{_≡_, refl, sym, ap, _∙_}
 use native.Mathlib.Decide.{decLe}
 use native.Mathlib.Nat.{add-zero}
 use native.Mathlib.Omega.{arith}
 use lib.ListN.{length, take, drop, length-append, length-drop, drop-of-length-le}
 use lib.Seq.{take-append-le, drop-append-le, drop-drop, take-all}
 use Rattle.table.specs.declared.State.{State}
-use Rattle.table.specs.Rows.{capacity}
 use Rattle.pala.specs.Record.{recordBytes}
 use Rattle.pala.specs.Run.{stretchesIn, stretches, played, lent}
-use Rattle.pala.specs.Shape.{wellShaped}
-use Rattle.pala.specs.Step.{Outcome, step, stepShaped, room}
-use Rattle.pala.proofs.Calls.{step-is}
-use Rattle.pala.proofs.Keeps.{step-shaped}
+use Rattle.pala.specs.Step.{step}
 use Rattle.pala.specs.Lines.{lineOf, lines}
 
 -- ---- stretches
@@ -89,37 +84,28 @@ cut d size e =
       )
     ]
 
+-- the part that code lends of a slice, `&bytes[from..from + size]`
+abbrev pub part : List ℕ → ℕ → ℕ → List ℕ
+part bytes from size = take (from + size - from) (drop from bytes)
+
 -- the stretch at an index, and then those of what is left after it
 pub next-stretch :
     (input : List ℕ) (from size : ℕ) → from < length input → size ≡ min (length input - from) recordBytes
-    → stretches (drop from input) ≡ take size (drop from input) ∷ stretches (drop (from + size) input)
+    → stretches (drop from input) ≡ part input from size ∷ stretches (drop (from + size) input)
 next-stretch input from size l e =
     let left : length (drop from input) ≡ length input - from = length-drop from input in
     let same : size ≡ min (length (drop from input)) recordBytes = omega arith in
+    let whole : size ≡ from + size - from = omega arith in
     let parts = cut (drop from input) size same in
     stretches-more (drop from input) (omega arith)
-    ∙ ap (λ (x : List ℕ). x ∷ stretches (drop recordBytes (drop from input))) (parts .0)
-    ∙ ap (λ (x : List ℕ). take size (drop from input) ∷ stretches x) (parts .1 ∙ drop-drop size from input)
+    ∙ ap (λ (x : List ℕ). x ∷ stretches (drop recordBytes (drop from input))) (parts .0 ∙ ap (λ (n : ℕ). take n (drop from input)) whole)
+    ∙ ap (λ (x : List ℕ). part input from size ∷ stretches x) (parts .1 ∙ drop-drop size from input)
 
 -- ---- one record
 
--- what a step over a well-shaped state hands back is what a step of the meaning does
-module _ (s : State) (r : List ℕ) (shaped : wellShaped s ≡ true) (o : Outcome) (told : o ≡ stepShaped room s r lent) where
-  pub told-step : o ≡ step s r lent
-  told-step = told ∙ sym (step-is s r lent shaped)
-
-  pub told-answer : o .answer ≡ step s r lent .answer
-  told-answer = ap (λ (x : Outcome). x .answer) told-step
-
-  pub told-state : o .state ≡ step s r lent .state
-  told-state = ap (λ (x : Outcome). x .state) told-step
-
-  pub told-shaped : length (s .blocks) ≡ suc capacity → wellShaped (o .state) ≡ true
-  told-shaped held = subst (λ (x : Outcome). wellShaped (x .state) ≡ true) (sym told) (step-shaped s r lent held shaped)
-
 -- playing on from after a record is playing on from before it
 pub played-next :
-    (records : List ℕ) (from : ℕ) (t u : State) → from + recordBytes ≤ length records → u ≡ step t (take recordBytes (drop from records)) lent .state
+    (records : List ℕ) (from : ℕ) (t u : State) → from + recordBytes ≤ length records → u ≡ step t (part records from recordBytes) lent .state
     → played u (stretches (drop (from + recordBytes) records)) ≡ played t (stretches (drop from records))
 unfolding played
 played-next records from t u l e =

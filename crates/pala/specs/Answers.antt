@@ -1,6 +1,6 @@
 -- 01, "Answer numbers".
 use Prim.Native.Nat.{ℕ, _+_, _%_}
-use mathlib.Core.Bool.{Bool, true, false, not, _&&_, _||_}
+use mathlib.Core.Bool.{Bool, not, _&&_, _||_}
 use mathlib.Core.List.{List, [], _∷_}
 use lib.Dec.{eqb, ltb, leb}
 use lib.ListN.{length}
@@ -11,7 +11,7 @@ use Rattle.table.specs.Scan.{pick}
 use Rattle.table.specs.Bytes.{zeros}
 use Rattle.table.specs.Rows.{rows, size, at, find, hasVoter}
 use Rattle.pala.specs.Counts.{topEpoch, clockOf}
-use Rattle.pala.specs.Record.{recordBytes, kindOf, senderOf, epochOf, nameOf, parentNameOf, is, knownKind, heard, unusedZero, proposalHeard, voteHeard, clockHeard, proposeNow, castNow, minuteUp}
+use Rattle.pala.specs.Record.{recordBytes, senderOf, epochOf, nameOf, parentNameOf, is, knownKind, heard, unusedZero, proposalHeard, voteHeard, clockHeard, proposeNow, castNow, minuteUp}
 use Rattle.pala.specs.Rules.{epochAt, freshest, ballot}
 use Rattle.pala.specs.Shape.{wellShaped}
 

@@ -2,9 +2,8 @@
 use mathlib.Core.Path.{_≡_}
 use Prim.Native.Nat.{ℕ, _+_}
 use mathlib.Core.Bool.{Bool, true, false}
-use mathlib.Core.List.{List, [], _∷_, _++_, map}
+use mathlib.Core.List.{List, [], _∷_, map}
 use lib.ListN.{take, drop, replicate}
-use Rattle.table.specs.declared.State.{State}
 use Rattle.table.specs.Rows.{nameBytes, payloadBytes}
 use Rattle.pala.specs.Answers.{number}
 use Rattle.pala.specs.Counts.{noName, noPayload}

@@ -5,7 +5,6 @@ use mathlib.Core.List.{List}
 use lib.Dec.{ltb, leb}
 use lib.ListN.{getD, replicate}
 use Rattle.table.specs.declared.Epoch.{Epoch}
-use Rattle.table.specs.declared.State.{State}
 use Rattle.table.specs.Rows.{mostNodes, nameBytes, payloadBytes}
 
 -- "Quorum: the least q with 3q at least 2n, worked out as (2n + 2) / 3 rounded down"

@@ -1,7 +1,7 @@
 -- 01, "What a taken record does": "First the direct effect."
 use Prim.Native.Nat.{ℕ, suc, _+_}
-use mathlib.Core.Bool.{Bool, true, false}
-use mathlib.Core.List.{List, [], _∷_, _++_}
+use mathlib.Core.Bool.{false}
+use mathlib.Core.List.{List, _∷_, _++_}
 use lib.ListN.{take, drop, set, replicate}
 use Rattle.table.specs.declared.Block.{Block}
 use Rattle.table.specs.declared.Epoch.{Epoch}

@@ -1,12 +1,11 @@
 -- 01, "A session at node 0 of 4": what `replay` prints, as bytes.
 use Prim.Native.Nat.{ℕ, zero, suc, _+_, _/_, _%_}
-use mathlib.Core.Bool.{Bool, true, false}
+use mathlib.Core.Bool.{true, false}
 use mathlib.Core.List.{List, [], _∷_, _++_}
 use lib.Dec.{ltb}
-use lib.ListN.{length, getD, drop}
+use lib.ListN.{length}
 use Rattle.table.specs.declared.Answer.{Answer}
 use Rattle.table.specs.declared.State.{State}
-use Rattle.table.specs.Scan.{pick}
 use Rattle.pala.specs.Answers.{number, taken}
 use Rattle.pala.specs.Lists.{finalNames}
 use Rattle.pala.specs.Run.{stretches, lent}

@@ -1,11 +1,10 @@
 -- 01, "Reading it out": the final list, and two of them side by side.
 use Prim.Native.Nat.{ℕ, _+_, _*_, _/_, _%_, _^_, min}
-use mathlib.Core.Bool.{Bool, true, false, not, _&&_, _||_}
+use mathlib.Core.Bool.{Bool, not, _&&_}
 use mathlib.Core.List.{List, [], _∷_, _++_, map, reverse}
 use lib.Dec.{eqb, ltb}
 use lib.ListN.{length, take, drop}
 use Rattle.table.specs.declared.Answer.{Answer}
-use Rattle.table.specs.declared.Block.{Block}
 use Rattle.table.specs.declared.Relation.{Relation}
 use Rattle.table.specs.declared.State.{State}
 use Rattle.table.specs.Scan.{pick, lowest}

@@ -1,8 +1,8 @@
 -- 01, "The 96-byte record".
 use Prim.Native.Nat.{ℕ, _+_, _*_, _/_, _%_}
-use mathlib.Core.Bool.{Bool, true, false, not, _&&_, _||_}
+use mathlib.Core.Bool.{Bool, _&&_, _||_}
 use mathlib.Core.List.{List, [], _∷_, _++_}
-use lib.Dec.{eqb, ltb, leb}
+use lib.Dec.{eqb, leb}
 use lib.ListN.{getD, take, drop}
 use Rattle.table.specs.Bytes.{zeros}
 use Rattle.table.specs.Rows.{nameBytes, payloadBytes}

@@ -1,6 +1,6 @@
 -- 01, "Reading it out": a run of records.
 use Prim.Native.Nat.{ℕ, zero, suc, _+_, _*_, _%_}
-use mathlib.Core.Bool.{Bool, true, false, not, _||_}
+use mathlib.Core.Bool.{not, _||_}
 use mathlib.Core.List.{List, [], _∷_}
 use lib.Dec.{eqb, ltb}
 use lib.ListN.{length, take, drop, replicate}
@@ -11,7 +11,7 @@ use Rattle.table.specs.Rows.{capacity, nameBytes}
 use Rattle.pala.specs.Answers.{number, taken, lowestOf}
 use Rattle.pala.specs.Counts.{nodes}
 use Rattle.pala.specs.Record.{recordBytes}
-use Rattle.pala.specs.Lists.{Listed, finalList}
+use Rattle.pala.specs.Lists.{finalList}
 use Rattle.pala.specs.Step.{step, start}
 
 -- "Each 96-byte stretch" of the bytes, the last as long as what is left; there are no more of them than bytes

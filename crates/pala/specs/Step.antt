@@ -1,6 +1,6 @@
 -- One call: what a node answers, the state and the out buffer it hands back.
 use Prim.Native.Nat.{ℕ}
-use mathlib.Core.Bool.{Bool, true, false}
+use mathlib.Core.Bool.{Bool}
 use mathlib.Core.List.{List}
 use lib.Dec.{ltb}
 use Rattle.table.specs.declared.Answer.{Answer}

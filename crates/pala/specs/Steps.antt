@@ -1,7 +1,6 @@
 -- 01, "What a taken record does": "Then, always in this order". Steps 1 and 2 are `firm` and `freshest`.
 use Prim.Native.Nat.{ℕ, _+_, max}
-use mathlib.Core.Bool.{Bool, true, false, not, _||_}
-use mathlib.Core.List.{List}
+use mathlib.Core.Bool.{Bool, not, _||_}
 use lib.Dec.{ltb}
 use Rattle.table.specs.declared.State.{State}
 use Rattle.table.specs.Scan.{pick}

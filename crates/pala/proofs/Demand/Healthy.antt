@@ -13,9 +13,9 @@ use Rattle.pala.specs.Rules.{candidate}
 use Rattle.pala.specs.Step.{step, room}
 use Rattle.pala.specs.Steps.{newKept, forward, settled}
 use Rattle.table.proofs.Laws.{pick-case}
-use Rattle.pala.proofs.Grown.{Grown, grown-same, grown-append, grown-vote, rows-clock}
+use Rattle.pala.proofs.Grown.{Grown}
 use Rattle.pala.proofs.Moves.{Did, added, counted, cast, clocked, Stepped, refused, took}
-use Rattle.pala.proofs.Keeps.{Proper, some-rows, rows-added, rows-voted, not-full}
+use Rattle.pala.proofs.Keeps.{Proper, some-rows, rows-added, rows-voted, not-full, did-grows}
 use Rattle.pala.proofs.Calls.{call-did, call-keeps}
 use Rattle.pala.proofs.Demand.Freshest.{Kept, grown-kept, candidate-kept}
 
@@ -48,10 +48,7 @@ module _ {s : State} (k : Proper s) where
 
   -- it only grows
   pub did-grown : {r : List ℕ} {u : State} → Did room s r u → Grown (rows s) (rows u)
-  did-grown (added b proposed kind w l e) = subst (Grown (rows s)) (sym (after-block b proposed l e)) (grown-append (rows s) b)
-  did-grown (counted kind pos l below other e) = subst (Grown (rows s)) (sym (after-vote _ _ _ l e)) (grown-vote (rows s) _ _ l)
-  did-grown (cast kind l v e) = subst (Grown (rows s)) (sym (after-vote _ _ _ l e)) (grown-vote (rows s) _ _ l)
-  did-grown (clocked i c k2 k5 below e) = subst (Grown (rows s)) (sym (ap rows e ∙ rows-clock s i c)) (grown-same (rows s))
+  did-grown = did-grows s (k .sized .blocks) (k .shaped)
 
   pub did-some : {r : List ℕ} {u : State} → Did room s r u → 0 < size (rows u)
   did-some d = omega (arith, some-rows k, did-grown d .longer)

@@ -1,13 +1,10 @@
 -- A table whose blocks are the book's, seen as names: its lines, firm blocks and kept blocks are those of `Chains`. Assumes nothing.
 use Prim.Native.Nat.{ℕ, _<_}
 use mathlib.Core.Bool.{true}
-use mathlib.Core.List.{List, [], _∷_, _++_, map, reverse, reverse-cons, map-append}
+use mathlib.Core.List.{List}
 use mathlib.Core.Logic.{_⊎_, inl, inr}
 use mathlib.Core.Path.{_≡_, refl, sym, ap, subst, _∙_}
-use native.Mathlib.Decide.{decLe}
 use native.Mathlib.Omega.{arith}
-use lib.ListN.{length, drop, length-reverse}
-use lib.Seq.{drop-append-le}
 use Rattle.table.specs.declared.Block.{Block}
 use Rattle.table.specs.Rows.{size, at}
 use Rattle.pala.specs.Counts.{noName}
@@ -15,38 +12,10 @@ use Rattle.pala.specs.Rules.{epochAt, parentOf, line, among, notarized, 
 use Rattle.pala.proofs.Demand.Chains as Chains
 use Rattle.pala.proofs.Places.{parent-below}
 use Rattle.pala.proofs.Demand.Chains.{On, here, up, Chain, none, more, Firm, decreed, next, normal-final}
-use Rattle.pala.proofs.Demand.Ancestors.{climb, line-zero, line-up, on-self, on-up, on-lower, firm-own, firm-parent}
+use Rattle.pala.proofs.Demand.Ancestors.{climb, on-self, on-up, on-lower, firm-own, firm-parent}
 use Rattle.pala.proofs.Demand.Freshest.{Kept}
+use Rattle.pala.proofs.Finals.{namesTo, names-zero, names-up}
 use Rattle.pala.proofs.Demand.Sound.{Sound, parent-earlier, one-place}
-
--- the names along a line, from the first after the genesis
-unfoldable pub namesTo : List Block → ℕ → List (List ℕ)
-namesTo t p = map (λ q. at t q .name) (drop 1 (reverse (line t p)))
-
-pub names-zero : (t : List Block) → namesTo t 0 ≡ []
-unfolding namesTo
-names-zero t = ap (λ l. map (λ q. at t q .name) (drop 1 (reverse l))) (line-zero t)
-
-line-some : (t : List Block) (p : ℕ) → 0 < length (line t p)
-line-some t p =
-    elim (decLe p 0) [
-      | yes z ↦ let e : p ≡ 0 = omega arith in omega (arith, ap length (ap (line t) e ∙ line-zero t))
-      | no z ↦ omega (arith, ap length (line-up t p (omega arith)))
-    ]
-
-pub names-up : (t : List Block) (p : ℕ) → 0 < p → namesTo t p ≡ namesTo t (parentOf t p) ++ (at t p .name ∷ [])
-unfolding namesTo
-names-up t p pos =
-    ap (λ l. map name (drop 1 (reverse l))) (line-up t p pos)
-    ∙ ap (λ l. map name (drop 1 l)) (reverse-cons p rest)
-    ∙ ap (map name) (drop-append-le 1 (reverse rest) (p ∷ []) (omega (arith, length-reverse rest, line-some t (parentOf t p))))
-    ∙ map-append name (drop 1 (reverse rest)) (p ∷ [])
-  where
-    name : ℕ → List ℕ
-    name q = at t q .name
-
-    rest : List ℕ
-    rest = line t (parentOf t p)
 
 module _ (epoch : List ℕ → ℕ) (parent : List ℕ → List ℕ) where
   -- every block of the table is the book's

@@ -21,7 +21,7 @@ use Rattle.pala.proofs.Demand.Chains.{Goes}
 use Rattle.pala.proofs.Demand.Ancestors.{climb, on-zero, on-cases}
 use Rattle.pala.proofs.Demand.Freshest.{kept-in}
 use Rattle.pala.proofs.Demand.Healthy.{Healthy, did-grown, did-same}
-use Rattle.pala.proofs.Demand.Names.{namesTo, names-zero, names-up}
+use Rattle.pala.proofs.Finals.{namesTo, names-zero, names-up}
 use Rattle.pala.proofs.Demand.Runs.{reached, from-to}
 use Rattle.pala.proofs.Demand.Safety.{joined-begins, shown-names}
 

@@ -19,7 +19,8 @@ use Rattle.pala.proofs.Demand.Chains.{Goes, On, in-line, chains-agree}
 use Rattle.pala.proofs.Demand.Freshest.{Kept, kept-in, candidate-kept}
 use Rattle.pala.proofs.Demand.Healthy.{Healthy, KeptBy, did-same, did-some, did-kept}
 use Rattle.pala.proofs.Demand.Runs.{effectAt, Next, stayed, moved, next, starts}
-use Rattle.pala.proofs.Demand.Names.{namesTo, chain-of, kept-of, on-place}
+use Rattle.pala.proofs.Demand.Names.{chain-of, kept-of, on-place}
+use Rattle.pala.proofs.Finals.{namesTo}
 use Rattle.pala.proofs.Demand.Honest as Honestly
 use Rattle.pala.proofs.Demand.Honest.{healthy, nodes-same, table-sound, table-kept, faithful, Notarized, keeps}
 

@@ -30,7 +30,7 @@ use Rattle.pala.proofs.Sent.{at-sized}
 use Rattle.pala.proofs.Calls.{any-lent}
 use Rattle.pala.proofs.Demand.Ancestors.{climb}
 use Rattle.pala.proofs.Demand.Runs.{reached}
-use Rattle.pala.proofs.Demand.Names.{namesTo, names-zero, names-up}
+use Rattle.pala.proofs.Finals.{namesTo, finals-are, names-zero, names-up}
 use Rattle.pala.proofs.Demand.Safety.{joined-append, safe}
 
 -- the names to a place: no more than the place counts, 32 bytes each
@@ -79,10 +79,6 @@ cut : (b : Bool) (l : List (List ℕ)) (rest x : List ℕ) → length (joined l)
 unfolding pick
 cut true l rest x e = inl (take-at (joined l) rest (nameBytes * length l) e)
 cut false l rest x e = inr refl
-
-finals-are : (s : State) → finalNames s ≡ namesTo (rows s) (s .kept .0)
-unfolding finalNames namesTo
-finals-are s = refl
 
 -- what the final-list function writes: the final names, or nothing
 written-is : (s : State) → Proper s → (x : List ℕ) → (written (finalList s x) ≡ joined (finalNames s)) ⊎ (written (finalList s x) ≡ [])

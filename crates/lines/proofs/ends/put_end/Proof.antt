@@ -1,10 +1,7 @@
 -- "end ", and the number.
 use borrow.Author.Needs.{needs}
 use denote.Ref.{now}
-use lib.ListN.{length}
-use mathlib.Core.Path.{_≡_, _∙_}
 use native.Mathlib.Omega.{arith}
-use Prim.Native.Nat.{_<_, _≤_}
 use Rattle.pala.specs.Lines.{endLine}
 use Rattle.lines.proofs.Laws.{digits-most, number-most, end-line, lined-none, lined-put, put-as, put-then}
 use Rattle.lines.proofs.ends.put_end.Statement.{statement}

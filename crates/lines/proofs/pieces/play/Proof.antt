@@ -1,18 +1,14 @@
 -- The three refusals in their order, and then the loop.
-use Prim.Native.Nat.{_*_, _≤_, _<_, _+_}
 use borrow.Author.Needs.{needs}
 use borrow.Author.Tests.{not-true, not-false}
 use denote.Ref.{now}
 use lib.ListN.{length}
-use mathlib.Core.Bool.{true}
 use mathlib.Core.Path.{_≡_, ap, sym, _∙_}
 use native.Mathlib.Omega.{arith}
 use Rattle.pala.specs.Run.{stretches}
-use Rattle.pala.specs.Shape.{wellShaped}
 use Rattle.pala.proofs.Stretches.{stretches-count}
 use Rattle.lines.specs.declared.pieces.Played.{Played}
-use Rattle.lines.specs.Play.{Piece, Ready, lastNumber}
-use Rattle.lines.specs.Text.{lineMost}
+use Rattle.lines.specs.Play.{Piece, Ready}
 use Rattle.lines.proofs.Answered.{piece-unshaped, piece-short, piece-over, piece-ready}
 use Rattle.lines.proofs.pieces.play.Statement.{statement}
 use Rattle.lines.proofs.pieces.play.Tie as tie

@@ -1,95 +1,162 @@
-use Prim.Native.Nat.{_+_, _-_, _≤_}
+-- Each record is decided; a taken one makes the next state, and either gets its line.
+use Prim.Native.Nat.{ℕ, _+_, _-_, _^_, _<_, _≤_}
 use borrow.Author.Needs.{needs}
-use denote.Ref.{now}
-use lib.ListN.{length, take, drop}
-use mathlib.Core.Bool.{true}
-use mathlib.Core.Path.{_≡_, subst}
+use lib.ListN.{length}
+use mathlib.Core.List.{List}
+use mathlib.Core.Logic.{⊎-elim}
+use mathlib.Core.Path.{_≡_, sym, _∙_}
 use native.Mathlib.Omega.{arith}
+use Rattle.table.proofs.Laws.{length-unmap}
 use Rattle.pala.specs.Run.{stretches}
-use Rattle.pala.specs.Shape.{wellShaped}
-use Rattle.lines.specs.Play.{Recorded, lastNumber}
+use Rattle.pala.proofs.Stretches.{part}
+use Rattle.lines.specs.Play.{lastNumber}
 use Rattle.lines.proofs.Going.{Going, going-start, going-next, going-numbered, going-length, going-room, going-end}
+use Rattle.lines.proofs.Records.{Numbers, numbers-short, room-line, recorded}
+use Rattle.lines.proofs.Turns.{Counted, Turned, turn-taken, turn-refused, turn-as}
 use Rattle.lines.proofs.pieces.play_records.Statement.{statement}
 use Rattle.lines.proofs.pieces.play_records.Tie as tie
-use Rattle.lines.proofs.pieces.play_records.Reads as reads
-use Rattle.lines.proofs.pieces.play_records.Lts as lts
-use Rattle.lines.proofs.pieces.put_record.Reads as put-record-reads
-use Rattle.lines.proofs.pieces.stretch.Reads as stretch-reads
 
 abbrev Inv-loop : tie.InvT-loop
-Inv-loop before input text₀ t₀ k₀ from₀ end₀ text t k from end =
-    (wellShaped t ≡ true) × (before + length (stretches input) ≤ lastNumber) × Going t₀ before input text₀ t k from end text
+Inv-loop before input text₀ t₀ k₀ from₀ end₀ names₀ text t k from end names =
+    Counted t names × (before + length (stretches input) ≤ lastNumber) × Going t₀ before input text₀ t k from end text
 
 abbrev μ-loop : tie.MeasureT-loop
-μ-loop before input text₀ t₀ k₀ from₀ end₀ text t k from end = length input - from
+μ-loop before input text₀ t₀ k₀ from₀ end₀ names₀ text t k from end names = length input - from
 
--- src/pieces.rt:85:5
+held : (c : tie.Start Inv-loop μ-loop) → length (c .args .s .blocks) ≡ 65
+held c = search length-unmap
+
+final-count-requires : tie.Need-final-count-requires Inv-loop μ-loop
+final-count-requires c κs = search needs
+
 loop-holds : tie.Need-loop-holds Inv-loop μ-loop
-loop-holds c = (
-  c .before .before .pre .shaped,
-  c .before .before .pre .number,
-  going-start (c .before .before .args .s) (c .before .before .args .before) (now (c .before .before .args .input)) (now (c .before .before .args .text)) (c .before .before .pre .fits),
-)
+loop-holds c =
+    let s = c .before .before .before in
+    (record { playable = record { places = held s; shaped = s .pre .shaped }; counted = c .final-count .ensures }, s .pre .number, going-start (s .pre .fits))
 
--- src/pieces.rt:86:28
 sub-stretch : tie.Need-sub-stretch Inv-loop μ-loop
 sub-stretch c = omega arith
 
--- src/pieces.rt:86:13
 stretch-requires : tie.Need-stretch-requires Inv-loop μ-loop
 stretch-requires c κs = search needs
 
--- src/pieces.rt:87:9
+-- there is a number for the record
+numbered : (c : tie.In-loop Inv-loop μ-loop) → c .before .loop .k < lastNumber
+numbered c = going-numbered (c .before .loop .inv .2) (c .loop-test .taken) (c .before .loop .inv .1)
+
 add-k : tie.Need-add-k Inv-loop μ-loop
-add-k c = omega (arith, going-numbered (c .before .before .before .before .before .args .s) (c .before .before .before .before .before .args .before) (now (c .before .before .before .before .before .args .input)) (now (c .before .before .before .before .before .args .text)) (c .before .before .loop .t) (c .before .before .loop .k) (c .before .before .loop .from) (c .before .before .loop .end) (c .before .before .loop .text) (c .before .before .loop .inv .2) (c .before .loop-test .taken) (c .before .before .loop .inv .1))
+add-k c = omega (arith, numbered (c .before))
 
--- src/pieces.rt:88:50
-add-put-record : tie.Need-add-put-record Inv-loop μ-loop
-add-put-record c = omega arith
+add-decide-shaped : tie.Need-add-decide-shaped Inv-loop μ-loop
+add-decide-shaped c = omega arith
 
--- src/pieces.rt:88:37
-sub-put-record : tie.Need-sub-put-record Inv-loop μ-loop
-sub-put-record c = omega arith
+sub-decide-shaped : tie.Need-sub-decide-shaped Inv-loop μ-loop
+sub-decide-shaped c = omega arith
 
--- src/pieces.rt:88:37
-part-put-record-start : tie.Need-part-put-record-start Inv-loop μ-loop
-part-put-record-start c = omega arith
+part-decide-shaped-start : tie.Need-part-decide-shaped-start Inv-loop μ-loop
+part-decide-shaped-start c = omega arith
 
--- src/pieces.rt:88:37
-part-put-record-end : tie.Need-part-put-record-end Inv-loop μ-loop
-part-put-record-end c = omega arith
+part-decide-shaped-end : tie.Need-part-decide-shaped-end Inv-loop μ-loop
+part-decide-shaped-end c = omega arith
 
--- src/pieces.rt:88:13
-put-record-requires : tie.Need-put-record-requires Inv-loop μ-loop
-put-record-requires c κs = (c .before .before .before .before .loop .inv .0, going-room (c .before .before .before .before .before .before .before .args .s) (c .before .before .before .before .before .before .before .args .before) (now (c .before .before .before .before .before .before .before .args .input)) (now (c .before .before .before .before .before .before .before .args .text)) (c .before .before .before .before .loop .t) (c .before .before .before .before .loop .k) (c .before .before .before .before .loop .from) (c .before .before .before .before .loop .end) (c .before .before .before .before .loop .text) (c .before .before .before .before .loop .inv .2) (c .before .before .before .loop-test .taken))
+decide-shaped-requires : tie.Need-decide-shaped-requires Inv-loop μ-loop
+decide-shaped-requires c κs = c .before .before .before .loop .inv .0 .playable .shaped
 
--- src/pieces.rt:92:9
+is-taken-requires : tie.Need-is-taken-requires Inv-loop μ-loop
+is-taken-requires c κs = search needs
+
+take-shaped-requires : tie.Need-take-shaped-requires Inv-loop μ-loop
+take-shaped-requires c κs =
+    let d = c .before .before .before in
+    (d .before .before .before .before .loop .inv .0 .playable .shaped, sym (c .before .before .is-taken .ensures) ∙ c .before .if1 .taken, (_, d .decide-shaped .ensures))
+
+names-after-requires : tie.Need-names-after-requires Inv-loop μ-loop
+names-after-requires c κs = search needs
+
+number-of-requires : tie.Need-number-of-requires Inv-loop μ-loop
+number-of-requires c κs = search needs
+
+wide-requires : tie.Need-wide-requires Inv-loop μ-loop
+wide-requires c κs = search needs
+
+wide-requires-2 : tie.Need-wide-requires-2 Inv-loop μ-loop
+wide-requires-2 c κs = search needs
+
+wide-requires-3 : tie.Need-wide-requires-3 Inv-loop μ-loop
+wide-requires-3 c κs = search needs
+
+wide-requires-4 : tie.Need-wide-requires-4 Inv-loop μ-loop
+wide-requires-4 c κs = search needs
+
+-- from where the arms meet back to the call that decided, the size, the test and the head of the loop
+abbrev decided : tie.Joined1 Inv-loop μ-loop → tie.After-decide-shaped Inv-loop μ-loop
+decided c = c .before .before
+
+abbrev sized : tie.Joined1 Inv-loop μ-loop → tie.After-stretch Inv-loop μ-loop
+sized c = decided c .before .before
+
+abbrev inside : tie.Joined1 Inv-loop μ-loop → tie.In-loop Inv-loop μ-loop
+inside c = sized c .before
+
+abbrev head : tie.Joined1 Inv-loop μ-loop → tie.At-loop Inv-loop μ-loop
+head c = inside c .before
+
+-- the record's bytes
+abbrev rec : tie.Joined1 Inv-loop μ-loop → List ℕ
+rec c = part (head c .before .before .before .before .args .input .now) (head c .loop .from) (sized c .stretch .result)
+
+-- by either arm the state is the next one, and its final names are counted
+turned : (c : tie.Joined1 Inv-loop μ-loop) → Turned (head c .loop .t) (rec c) (c .if1 .t) (c .if1 .names)
+turned c =
+    let was = head c .loop .inv .0 in
+    ⊎-elim
+    (λ w. turn-as (w .4) (w .5) (turn-taken _ _ was (w .2 .ensures _ (decided c .decide-shaped .ensures)) (w .3 .ensures)))
+    (λ w. turn-as (w .1) (w .2) (turn-refused _ _ was (decided c .decide-shaped .ensures) (sym (c .before .is-taken .ensures) ∙ w .0 .left)))
+    (c .if1 .came)
+
+-- the line: its numbers, and that it is no longer than the longest
+module _ (c : tie.After-wide4 Inv-loop μ-loop) where
+  abbrev met : tie.Joined1 Inv-loop μ-loop
+  met = c .before .before .before .before .before .before
+
+  numbers : Numbers (decided met .decide-shaped .result .answer) (met .if1 .t) (c .before .before .before .before .wide .result) (c .before .before .before .wide2 .result) (c .before .before .wide3 .result) (c .wide4 .result)
+  numbers =
+      record {
+        answers = c .before .before .before .before .wide .ensures .0 ∙ c .before .before .before .before .before .number-of .ensures;
+        locals = c .before .before .before .wide2 .ensures;
+        bars = c .before .before .wide3 .ensures;
+        lists = c .wide4 .ensures .0 ∙ turned met .after .counted;
+      }
+
+  number-fits : head met .loop .k + 1 < 2 ^ 64
+  number-fits = omega (arith, numbered (inside met))
+
+put-line-requires : tie.Need-put-line-requires Inv-loop μ-loop
+put-line-requires c κs =
+    room-line _ _ _ (going-room (head (met c) .loop .inv .2) (inside (met c) .loop-test .taken))
+    (numbers-short (numbers c) _ (number-fits c) (turned (met c) .after .playable .shaped))
+
 add-from : tie.Need-add-from Inv-loop μ-loop
-add-from c = omega arith
+add-from c = omega (arith, sized (met (c .before .before .before)))
 
--- src/pieces.rt:85:5
 loop-less : tie.Need-loop-less Inv-loop μ-loop
-loop-less c = omega arith
+loop-less c = omega (arith, sized (met (c .before .before .before)))
 
--- src/pieces.rt:85:5
 loop-again : tie.Need-loop-again Inv-loop μ-loop
 loop-again c =
-    let size : c .before .before .before .before .before .before .before .before .loop .from + c .before .before .before .before .before .before .stretch .result - c .before .before .before .before .before .before .before .before .loop .from ≡ c .before .before .before .before .before .before .stretch .result = omega arith in (
-      c .before .before .before .put-record .ensures .shaped,
-      c .before .before .before .before .before .before .before .before .loop .inv .1,
-      going-next (c .before .before .before .before .before .before .before .before .before .before .before .args .s) (c .before .before .before .before .before .before .before .before .before .before .before .args .before) (now (c .before .before .before .before .before .before .before .before .before .before .before .args .input)) (now (c .before .before .before .before .before .before .before .before .before .before .before .args .text)) (c .before .before .before .before .before .before .before .before .loop .t) (c .before .before .before .before .before .before .before .before .loop .k) (c .before .before .before .before .before .before .before .before .loop .from) (c .before .before .before .before .before .before .before .before .loop .end) (c .before .before .before .before .before .before .before .before .loop .text) (c .before .before .before .before .before .before .before .before .loop .inv .2) (c .before .before .before .put-record .result .state) (c .before .before .before .before .before .before .stretch .result) (c .before .before .before .put-record .result .end) (c .before .before .before .put-record .last .1 .1 .1 .0) (c .before .before .before .before .before .before .before .loop-test .taken) (c .before .before .before .before .before .before .stretch .ensures)
-          (subst
-          (λ n. Recorded (c .before .before .before .before .before .before .before .before .loop .t) (c .before .before .before .before .before .before .before .before .loop .k + 1) (take n (drop (c .before .before .before .before .before .before .before .before .loop .from) (now (c .before .before .before .before .before .before .before .before .before .before .before .args .input)))) (c .before .before .before .before .before .before .before .before .loop .text) (c .before .before .before .before .before .before .before .before .loop .end) (c .before .before .before .put-record .result .state) (c .before .before .before .put-record .result .end) (c .before .before .before .put-record .last .1 .1 .1 .0))
-          size (c .before .before .before .put-record .ensures)),
+    let w = c .before .before .before in
+    let l = head (met w) .loop in (
+      turned (met w) .after,
+      l .inv .1,
+      going-next (l .inv .2) (inside (met w) .loop-test .taken) (sized (met w) .stretch .ensures)
+          (recorded (l .inv .0 .playable .shaped) (decided (met w) .decide-shaped .ensures) (turned (met w)) (numbers w) (number-fits w) (c .before .before .put-line .ensures)),
     )
 
--- src/pieces.rt:77:1
 same-length : tie.Need-same-length Inv-loop μ-loop
-same-length c = going-length (c .before .before .before .before .args .s) (c .before .before .before .before .args .before) (now (c .before .before .before .before .args .input)) (now (c .before .before .before .before .args .text)) (c .before .loop .t) (c .before .loop .k) (c .before .loop .from) (c .before .loop .end) (c .before .loop .text) (c .before .loop .inv .2)
+same-length c = going-length (c .before .loop .inv .2)
 
--- src/pieces.rt:77:1
 returns : tie.Need-returns Inv-loop μ-loop
-returns c = going-end (c .before .before .before .before .args .s) (c .before .before .before .before .args .before) (now (c .before .before .before .before .args .input)) (now (c .before .before .before .before .args .text)) (c .before .loop .t) (c .before .loop .k) (c .before .loop .from) (c .before .loop .end) (c .before .loop .text) (c .before .loop .inv .2) (c .loop-test .left)
+returns c = going-end (c .before .loop .inv .2) (c .loop-test .left)
 
 pub play-records-spec : {M : Type 1} → statement M
 play-records-spec =
@@ -97,15 +164,25 @@ play-records-spec =
     (tie.spec
     Inv-loop
     μ-loop
+    final-count-requires
     loop-holds
     sub-stretch
     stretch-requires
     add-k
-    add-put-record
-    sub-put-record
-    part-put-record-start
-    part-put-record-end
-    put-record-requires
+    add-decide-shaped
+    sub-decide-shaped
+    part-decide-shaped-start
+    part-decide-shaped-end
+    decide-shaped-requires
+    is-taken-requires
+    take-shaped-requires
+    names-after-requires
+    number-of-requires
+    wide-requires
+    wide-requires-2
+    wide-requires-3
+    wide-requires-4
+    put-line-requires
     add-from
     loop-less
     loop-again

@@ -4,7 +4,7 @@ use mathlib.Core.Path.{ap, sym, _∙_}
 use Rattle.pala.specs.Lines.{digits}
 use borrow.Author.Needs.{needs}
 use native.Mathlib.Omega.{arith}
-use Rattle.lines.proofs.Laws.{digits-one, digits-more, length-one, length-more, put-then, put-length, put-as}
+use Rattle.lines.proofs.Laws.{digits-one, digits-more, length-one, length-more, put-then, put-as}
 use borrow.Fn.Kinds.{In}
 use borrow.Fn.PlainCycle.{Measures, is, falls, and}
 use Rattle.lines.proofs.text.put_digits.Reads as put-digits

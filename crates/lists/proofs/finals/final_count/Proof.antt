@@ -8,7 +8,9 @@ use Rattle.table.specs.Rows.{capacity, rows}
 use Rattle.table.proofs.Laws.{length-unmap}
 use Rattle.pala.specs.Rules.{parentOf}
 use Rattle.pala.specs.Lists.{finalNames}
-use Rattle.lists.proofs.Laws.{final-names, parent-below, names-le, names-up-length, names-zero, namesTo, next-place, row-below}
+use Rattle.pala.proofs.Finals.{finals-are, names-le, names-up-length, names-zero, namesTo}
+use Rattle.pala.proofs.Places.{parent-below}
+use Rattle.lists.proofs.Readings.{next-place, row-below}
 use Rattle.lists.proofs.finals.final_count.Statement.{statement}
 use Rattle.lists.proofs.finals.final_count.Tie as tie
 
@@ -38,7 +40,7 @@ none-left : (c : tie.After-loop Inv-loop μ-loop) → c .before .loop .p ≡ 0
 none-left c = omega arith
 
 loop-holds : tie.Need-loop-holds Inv-loop μ-loop
-loop-holds c = omega (arith, ap length (final-names (c .args .t1)))
+loop-holds c = omega (arith, ap length (finals-are (c .args .t1)))
 
 row-of-requires : tie.Need-row-of-requires Inv-loop μ-loop
 row-of-requires c κs = search needs
@@ -59,7 +61,7 @@ add-n : tie.Need-add-n Inv-loop μ-loop
 add-n c =
     let l = c .before .before .before in
     let s = l .before .args .t1 in
-    omega (arith, names-up-length (rows s) (l .loop .p) (omega arith), names-le (rows s) (s .kept .0), ap length (final-names s), l .before .good)
+    omega (arith, names-up-length (rows s) (l .loop .p) (omega arith), names-le (rows s) (s .kept .0), ap length (finals-are s), l .before .good)
 
 loop-less : tie.Need-loop-less Inv-loop μ-loop
 loop-less c =

@@ -2,7 +2,7 @@
 use mathlib.Core.Path.{_∙_, sym}
 use borrow.Author.Needs.{needs}
 use borrow.Author.Tests.{not-false, not-true}
-use Rattle.lists.proofs.Laws.{list-badly-shaped}
+use Rattle.lists.proofs.Readings.{list-badly-shaped}
 use Rattle.lists.proofs.finals.final_list.Statement.{statement}
 use Rattle.lists.proofs.finals.final_list.Tie as tie
 

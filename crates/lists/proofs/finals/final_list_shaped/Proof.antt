@@ -1,7 +1,7 @@
 -- The final list of a well-shaped state: too little room, or every name written. Assumes nothing.
 use native.Mathlib.Omega.{arith}
 use borrow.Author.Needs.{needs}
-use Rattle.lists.proofs.Laws.{list-read, list-too-short}
+use Rattle.lists.proofs.Readings.{list-read, list-too-short}
 use Rattle.lists.proofs.finals.final_list_shaped.Statement.{statement}
 use Rattle.lists.proofs.finals.final_list_shaped.Tie as tie
 

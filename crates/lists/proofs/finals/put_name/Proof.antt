@@ -6,7 +6,7 @@ use borrow.Author.Needs.{needs}
 use lib.ListN.{length, length-set}
 use lib.Seq.{paste, paste-zero}
 use Rattle.table.specs.Rows.{nameBytes}
-use Rattle.lists.proofs.Laws.{put-step, put-whole}
+use Rattle.lists.proofs.Readings.{put-step, put-whole}
 use Rattle.lists.proofs.finals.put_name.Statement.{statement}
 use Rattle.lists.proofs.finals.put_name.Tie as tie
 

@@ -1,6 +1,6 @@
 -- The row of a place: past the last, and past the capacity, the root's. Assumes nothing.
 use mathlib.Core.Path.{sym}
-use Rattle.lists.proofs.Laws.{row-beyond, row-in, row-past}
+use Rattle.lists.proofs.Readings.{row-beyond, row-in, row-past}
 use Rattle.lists.proofs.finals.row_of.Statement.{statement}
 use Rattle.lists.proofs.finals.row_of.Tie as tie
 

@@ -8,7 +8,8 @@ use Rattle.table.specs.Rows.{capacity, nameBytes, rows}
 use Rattle.table.proofs.Laws.{length-unmap}
 use Rattle.pala.specs.Rules.{parentOf}
 use Rattle.pala.specs.Lists.{finalNames}
-use Rattle.lists.proofs.Laws.{Written, next-place, parent-below, place-name, row-below, written-all, written-next, written-none, written-room, written-step}
+use Rattle.pala.proofs.Places.{parent-below}
+use Rattle.lists.proofs.Readings.{Written, next-place, place-name, row-below, written-all, written-next, written-none, written-room, written-step}
 use Rattle.lists.proofs.finals.write_names.Statement.{statement}
 use Rattle.lists.proofs.finals.write_names.Tie as tie
 

@@ -8,7 +8,7 @@ use borrow.Author.Needs.{needs}
 use borrow.Author.Tests.{not-true, not-false}
 use Rattle.table.specs.Bytes.{same}
 use Rattle.table.specs.Rows.{nameBytes}
-use Rattle.lists.proofs.Laws.{agreeing-all, agreeing-is, nameFrom}
+use Rattle.lists.proofs.Sides.{agreeing-all, agreeing-is, nameFrom}
 use Rattle.lists.proofs.relations.agreeing.Statement.{statement}
 use Rattle.lists.proofs.relations.agreeing.Tie as tie
 

@@ -4,7 +4,7 @@ use native.Mathlib.Omega.{arith}
 use borrow.Author.Needs.{needs}
 use Rattle.table.specs.declared.Relation.{Relation}
 use Rattle.pala.specs.Lists.{relationCode, relationIndex}
-use Rattle.lists.proofs.Laws.{relation-index}
+use Rattle.lists.proofs.Sides.{relation-index}
 use Rattle.lists.proofs.relations.code.Statement.{statement}
 use Rattle.lists.proofs.relations.code.Tie as tie
 

@@ -3,7 +3,7 @@ use mathlib.Core.Path.{sym}
 use native.Mathlib.Omega.{arith}
 use borrow.Author.Needs.{needs}
 use Rattle.table.specs.declared.Relation.{Relation}
-use Rattle.lists.proofs.Laws.{agreeing-le, relation-is}
+use Rattle.lists.proofs.Sides.{agreeing-le, relation-is}
 use Rattle.lists.proofs.relations.relation.Statement.{statement}
 use Rattle.lists.proofs.relations.relation.Tie as tie
 

@@ -5,7 +5,7 @@ use native.Mathlib.Omega.{arith}
 use borrow.Author.Count.{below-more}
 use lib.ListN.{getD}
 use Rattle.table.specs.Rows.{nameBytes}
-use Rattle.lists.proofs.Laws.{names-differ, names-same}
+use Rattle.lists.proofs.Sides.{names-differ, names-same}
 use Rattle.lists.proofs.relations.same_at.Statement.{statement}
 use Rattle.lists.proofs.relations.same_at.Tie as tie
 

@@ -4,7 +4,7 @@ use native.Mathlib.Omega.{arith}
 use borrow.Author.Needs.{needs}
 use Rattle.pala.specs.Lists.{tailOf}
 use Rattle.lists.specs.Tails.{tailStart}
-use Rattle.lists.proofs.Laws.{empty-tail, first-longer, first-tail, second-longer, second-tail}
+use Rattle.lists.proofs.Sides.{empty-tail, first-longer, first-tail, second-longer, second-tail}
 use Rattle.lists.proofs.relations.tail.Statement.{statement}
 use Rattle.lists.proofs.relations.tail.Tie as tie
 
