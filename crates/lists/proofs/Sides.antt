@@ -16,6 +16,7 @@ use Rattle.table.specs.Rows.{nameBytes}
 use Rattle.table.specs.declared.Relation.{Relation}
 use Rattle.table.proofs.Laws.{pick-yes, pick-no, pick-case, not-both, lowest-is, lowest-none, lowest-le, lowest-below, same-refl, same-true, same-all, same-differs}
 use Rattle.pala.specs.Lists.{nameAt, agreeing, broken, relation, relationNumber, relationIndex, tail, tailOf}
+use Rattle.pala.specs.Safety.{Begins}
 use Rattle.lists.specs.Tails.{past, tailStart}
 
 -- what does not fail passes
@@ -176,10 +177,7 @@ alike : (a b : List ℕ) → Agree a b → (n : ℕ) → n ≡ nameBytes * inBot
 alike a b h n e =
     ap (λ (k : ℕ). take k a) e ∙ agreeing-bytes a b (inBoth a b) (omega arith) ∙ ap (λ (k : ℕ). take k b) (sym e)
 
--- the second begins with the first
-abbrev pub Begins : List ℕ → List ℕ → Type 0
-Begins a b = (rest : List ℕ) × (a ++ rest ≡ b)
-
+-- a list that begins another has its names
 begins-name : (a b rest : List ℕ) → a ++ rest ≡ b → (i : ℕ) → nameBytes * i + nameBytes ≤ length a → nameFrom a (nameBytes * i) ≡ nameFrom b (nameBytes * i)
 begins-name a b rest e i l =
     let k = nameBytes * i in

@@ -2,7 +2,7 @@
 use Prim.Native.Nat.{ℕ, suc, _+_, _*_, _%_, _≤_, _<_, zero-le, suc-le-suc}
 use mathlib.Core.Bool.{Bool, true, false}
 use mathlib.Core.List.{List, [], _∷_, _++_}
-use mathlib.Core.Logic.{_⊎_, inl, inr}
+use mathlib.Core.Logic.{_⊎_, inl, inr, ⊎-elim}
 use mathlib.Core.Path.{_≡_, refl, sym, ap, subst, subst₂, _∙_}
 use native.Mathlib.Omega.{arith}
 use lib.Dec.{eqb}
@@ -13,7 +13,7 @@ use Rattle.table.specs.declared.Answer.{Answer}
 use Rattle.table.specs.declared.Block.{Block}
 use Rattle.table.specs.declared.State.{State}
 use Rattle.table.specs.Scan.{pick}
-use Rattle.table.specs.Rows.{capacity, nameBytes, rows, at}
+use Rattle.table.specs.Rows.{capacity, mostNodes, nameBytes, rows, at}
 use Rattle.pala.specs.Answers.{number, taken}
 use Rattle.pala.specs.Record.{recordBytes}
 use Rattle.pala.specs.Lists.{joined, finalNames, finalList, listed, listAnswer}
@@ -24,28 +24,15 @@ use Rattle.pala.specs.Safety.{Event, Run, eventAt, after, follow, stateA
 use Rattle.pala.specs.Shown.{written, SafeLists, recordsOf, PlayedBy, ranWritten, SafeRuns}
 use Rattle.pala.proofs.Shapes.{shaped-count, shaped-kept}
 use Rattle.pala.proofs.Sized.{RowSized}
-use Rattle.pala.proofs.Places.{parent-below}
 use Rattle.pala.proofs.Keeps.{Proper}
 use Rattle.pala.proofs.Sent.{at-sized}
 use Rattle.pala.proofs.Calls.{any-lent}
 use Rattle.pala.proofs.Demand.Ancestors.{climb}
 use Rattle.pala.proofs.Demand.Runs.{reached}
-use Rattle.pala.proofs.Finals.{namesTo, finals-are, names-zero, names-up}
+use Rattle.pala.proofs.Finals.{namesTo, finals-are, names-zero, names-up, names-le}
 use Rattle.pala.proofs.Demand.Safety.{joined-append, safe}
 
--- the names to a place: no more than the place counts, 32 bytes each
-pub names-few : (t : List Block) (p : ℕ) → length (namesTo t p) ≤ p
-names-few t = climb t (λ p. length (namesTo t p) ≤ p) (omega (arith, ap length (names-zero t))) step
-  where
-    step : (p : ℕ) → 0 < p → length (namesTo t (parentOf t p)) ≤ parentOf t p → length (namesTo t p) ≤ p
-    step p pos ih =
-        omega (
-          arith,
-          ap length (names-up t p pos),
-          length-append (namesTo t (parentOf t p)) (at t p .name ∷ []),
-          parent-below t p pos,
-        )
-
+-- the names to a place are 32 bytes each
 pub names-long : (t : List Block) → ((p : ℕ) → RowSized (at t p)) → (p : ℕ) → length (joined (namesTo t p)) ≡ nameBytes * length (namesTo t p)
 unfolding joined
 names-long t sized = climb t (λ p. length (joined (namesTo t p)) ≡ nameBytes * length (namesTo t p)) base step
@@ -80,13 +67,16 @@ unfolding pick
 cut true l rest x e = inl (take-at (joined l) rest (nameBytes * length l) e)
 cut false l rest x e = inr refl
 
+-- a state's final names are 32 bytes each
+finals-long : (s : State) → Proper s → length (joined (finalNames s)) ≡ nameBytes * length (finalNames s)
+finals-long s k =
+    subst (λ l. length (joined l) ≡ nameBytes * length l) (sym (finals-are s)) (names-long (rows s) (at-sized s k) (s .kept .0))
+
 -- what the final-list function writes: the final names, or nothing
 written-is : (s : State) → Proper s → (x : List ℕ) → (written (finalList s x) ≡ joined (finalNames s)) ⊎ (written (finalList s x) ≡ [])
 unfolding finalList listed
 written-is s k x =
-    cut (taken (listAnswer s x)) (finalNames s) (drop (nameBytes * length (finalNames s)) x) x
-    (subst (λ l. length (joined l) ≡ nameBytes * length l) (sym (finals-are s))
-    (names-long (rows s) (at-sized s k) (s .kept .0)))
+    cut (taken (listAnswer s x)) (finalNames s) (drop (nameBytes * length (finalNames s)) x) x (finals-long s k)
 
 counted-few : (s : State) → Proper s → (x : List ℕ) → finalList s x .count ≤ capacity
 unfolding finalList listed pick
@@ -97,7 +87,7 @@ counted-few s k x = go (taken (listAnswer s x))
         omega (
           arith,
           ap length (finals-are s),
-          names-few (rows s) (s .kept .0),
+          names-le (rows s) (s .kept .0),
           shaped-kept s (k .shaped),
           shaped-count s (k .shaped),
         )
@@ -173,9 +163,22 @@ ran-is n i slice x s k e =
     of u =
         take (nameBytes * ((number a * 65536 + pick (taken a) (finalList u x .count) 0) % 65536)) (pick (taken a) (finalList u x .list) x)
 
+-- .. of the state that a gateway of a run is in
+ran-shown : (n i m : ℕ) (events : Run) → 1 ≤ n → n ≤ mostNodes → i < n → (slice : List ℕ) → PlayedBy events m i slice → (x : List ℕ)
+    → (ranWritten (run n i slice x) ≡ joined (finalNames (stateAt n events m i))) ⊎ (ranWritten (run n i slice x) ≡ [])
+ran-shown n i m events some most below slice w x =
+    ran-is n i slice x (stateAt n events m i) (reached n i some most below events m .proper) (state-played n events m i slice w)
+
 pub safe-runs : SafeRuns
 unfolding shownAt
 safe-runs n honest events pr i j a b hi hj p q wp wq x y =
     or-empty (safe n honest events pr i j a b hi hj)
-    (ran-is n i p x (stateAt n events a i) (reached n i (pr .some) (pr .most) (hi .0) events a .proper) (state-played n events a i p wp))
-    (ran-is n j q y (stateAt n events b j) (reached n j (pr .some) (pr .most) (hj .0) events b .proper) (state-played n events b j q wq))
+    (ran-shown n i a events (pr .some) (pr .most) (hi .0) p wp x)
+    (ran-shown n j b events (pr .some) (pr .most) (hj .0) q wq y)
+
+-- a run of a gateway writes whole names
+pub runs-whole : (n i m : ℕ) (events : Run) → 1 ≤ n → n ≤ mostNodes → i < n → (slice : List ℕ) → PlayedBy events m i slice → (x : List ℕ)
+    → length (ranWritten (run n i slice x)) % nameBytes ≡ 0
+runs-whole n i m events some most below slice w x =
+    ⊎-elim (λ e. omega (arith, ap length e, finals-long (stateAt n events m i) (reached n i some most below events m .proper)))
+    (λ e. ap (λ l. length l % nameBytes) e) (ran-shown n i m events some most below slice w x)
