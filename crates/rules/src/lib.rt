@@ -1,5 +1,6 @@
 // The rules of 01, "What a taken record does", as code: enough votes, freshest, the block that may be voted for, and where a state
-// stands before the five steps. Every state is answered, of whatever shape. The meaning is `pala`'s.
+// stands before the five steps. Every state is answered, of whatever shape.
+// It relies on `table` for the types and leaves; its promises cite the definitions of `pala`.
 
 use table::Epoch;
 use table::Place;

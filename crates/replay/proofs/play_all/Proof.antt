@@ -1,3 +1,4 @@
+-- The loop over pieces ends by its own count of turns. Assumes nothing.
 use native.Mathlib.Omega.{arith}
 use Rattle.replay.proofs.play_all.Statement.{statement}
 use Rattle.replay.proofs.play_all.Tie as tie

@@ -1,3 +1,4 @@
+-- A piece read, played and printed, each part of a buffer within it. Assumes nothing.
 use lib.Seq.{length-take-le}
 use mathlib.Core.Path.{sym}
 use native.Mathlib.Omega.{arith}

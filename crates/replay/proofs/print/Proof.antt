@@ -1,3 +1,4 @@
+-- The part of a line that is printed lies within its buffer. Assumes nothing.
 use lib.Seq.{length-take-le}
 use mathlib.Core.Path.{sym}
 use native.Mathlib.Omega.{arith}

@@ -1,3 +1,4 @@
+-- The digits before the last one, then the last: the measure is the number. Assumes nothing.
 use Prim.Native.Nat.{ℕ, _<_, _/_}
 use mathlib.Core.List.{[], _∷_, _++_}
 use mathlib.Core.Path.{ap, sym, _∙_}
@@ -26,7 +27,6 @@ abbrev put-digits-below : ℕ → In 1 put-digits-kinds.ps
 put-digits-below t =
     and 1 put-digits-kinds.ps (falls 1 put-digits-kinds.ps _<_ μ-put-digits t) put-digits.Pre
 
--- src/text.rt:36:35
 put-digits-digit-requires : (t : ℕ) → put-digits-lts.Need-digit-requires (
   digit-reads.Asked,
   digit-reads.Learnt,
@@ -37,7 +37,6 @@ put-digits-digit-requires : (t : ℕ) → put-digits-lts.Need-digit-requires (
 ) (put-digits-at t) put-digits.Post
 put-digits-digit-requires t c κs = search needs
 
--- src/text.rt:36:9
 put-digits-put-byte-requires : (t : ℕ) → put-digits-lts.Need-put-byte-requires (
   digit-reads.Asked,
   digit-reads.Learnt,
@@ -48,7 +47,6 @@ put-digits-put-byte-requires : (t : ℕ) → put-digits-lts.Need-put-byte-requir
 ) (put-digits-at t) put-digits.Post
 put-digits-put-byte-requires t c κs = omega (arith, length-one (c .before .before .before .before .args .k) (search needs))
 
--- src/text.rt:36:9
 put-digits-same-length : (t : ℕ) → put-digits-lts.Need-same-length (
   digit-reads.Asked,
   digit-reads.Learnt,
@@ -59,7 +57,6 @@ put-digits-same-length : (t : ℕ) → put-digits-lts.Need-same-length (
 ) (put-digits-at t) put-digits.Post
 put-digits-same-length t c = search needs
 
--- src/text.rt:36:9
 put-digits-returns : (t : ℕ) → put-digits-lts.Need-returns (
   digit-reads.Asked,
   digit-reads.Learnt,
@@ -70,7 +67,6 @@ put-digits-returns : (t : ℕ) → put-digits-lts.Need-returns (
 ) (put-digits-at t) put-digits.Post
 put-digits-returns t c = put-as (ap (λ (d : ℕ). d ∷ []) (c .before .before .before .digit .ensures) ∙ sym (digits-one (c .before .before .before .before .before .before .before .args .k) (c .before .before .before .before .before .if1 .taken))) (c .before .before .put-byte .ensures)
 
--- src/text.rt:38:9
 put-digits-put-digits-requires : (t : ℕ) → put-digits-lts.Need-put-digits-requires (
   digit-reads.Asked,
   digit-reads.Learnt,
@@ -81,7 +77,6 @@ put-digits-put-digits-requires : (t : ℕ) → put-digits-lts.Need-put-digits-re
 ) (put-digits-at t) put-digits.Post
 put-digits-put-digits-requires t c κs = (omega arith, omega (arith, length-more (c .before .before .before .args .k) (search needs)))
 
--- src/text.rt:39:26
 put-digits-digit-requires-2 : (t : ℕ) → put-digits-lts.Need-digit-requires-2 (
   digit-reads.Asked,
   digit-reads.Learnt,
@@ -92,7 +87,6 @@ put-digits-digit-requires-2 : (t : ℕ) → put-digits-lts.Need-digit-requires-2
 ) (put-digits-at t) put-digits.Post
 put-digits-digit-requires-2 t c κs = search needs
 
--- src/text.rt:39:5
 put-digits-put-byte-requires-2 : (t : ℕ) → put-digits-lts.Need-put-byte-requires-2 (
   digit-reads.Asked,
   digit-reads.Learnt,
@@ -103,7 +97,6 @@ put-digits-put-byte-requires-2 : (t : ℕ) → put-digits-lts.Need-put-byte-requ
 ) (put-digits-at t) put-digits.Post
 put-digits-put-byte-requires-2 t c κs = omega (arith, length-more (c .before .before .before .before .before .before .before .before .args .k) (c .before .before .before .before .before .before .if1 .left))
 
--- src/text.rt:31:1
 put-digits-same-length-2 : (t : ℕ) → put-digits-lts.Need-same-length-2 (
   digit-reads.Asked,
   digit-reads.Learnt,
@@ -114,7 +107,6 @@ put-digits-same-length-2 : (t : ℕ) → put-digits-lts.Need-same-length-2 (
 ) (put-digits-at t) put-digits.Post
 put-digits-same-length-2 t c = search needs
 
--- src/text.rt:31:1
 put-digits-returns-2 : (t : ℕ) → put-digits-lts.Need-returns-2 (
   digit-reads.Asked,
   digit-reads.Learnt,
