@@ -1,4 +1,4 @@
-// "First the direct effect."
+// "First the direct effect." It is told in a few numbers and one block, so that only one function makes a new state.
 
 use crate::kinds::CAST_NOW;
 use crate::kinds::CLOCK_HEARD;
@@ -17,10 +17,23 @@ ghost use Prim.Native.Nat.{ℕ, _<_, _≤_};
 ghost use mathlib.Core.Bool.{true};
 ghost use mathlib.Core.List.{List};
 ghost use mathlib.Core.Path.{_≡_};
+ghost use lib.ListN.{getD};
 ghost use Rattle.table.specs.Rows.{capacity, mostNodes};
 ghost use Rattle.pala.specs.Effects.{effect, newBlock, withBlock, withClock, withVote};
 ghost use Rattle.pala.specs.Shape.{wellShaped};
+ghost use Rattle.node.specs.Done.{Does};
 ghost use Rattle.node.specs.Moves.{Granted};
+
+// What a taken record changes first: one row, one clock and the numbers beside them. What stays is written as it stands.
+pub struct Effect {
+    pub row: Place,
+    pub block: Block,
+    pub who: NodeNo,
+    pub clock: Epoch,
+    pub count: u32,
+    pub voted: Epoch,
+    pub proposed: Epoch,
+}
 
 // A block with no voters.
 fn new_block(name: [u8; 32], epoch: Epoch, parent: Place, payload: [u8; 24]) -> Block
@@ -35,70 +48,96 @@ fn new_block(name: [u8; 32], epoch: Epoch, parent: Place, payload: [u8; 24]) -> 
     }
 }
 
-// One block more, at the next place.
-fn add_block(s: State, b: Block, proposed: Epoch) -> State
-    requires { ⌜ s .count < capacity ⌝ }
-    ensures { λ t. ⌜ t ≡ withBlock s b (proposed .0) ⌝ }
+// The own clock kept, which is written as it stands.
+fn kept_clock(s: State) -> Epoch
+    requires { ⌜ s .own .0 < mostNodes ⌝ }
+    ensures { λ r. ⌜ r ≡ getD (s .clocks) (s .own .0) (record { 0 = 0 }) ⌝ }
 {
-    let mut next = s;
-    let k = s.count + 1;
+    let k = s.own.0;
     let i = k as usize;
-    next.blocks[i] = b;
-    next.count = k;
-    next.proposed = proposed;
-    next
+    s.clocks[i]
+}
+
+// One block more, at the next place.
+fn block_added(s: State, b: Block, proposed: Epoch) -> Effect
+    requires { ⌜ (s .count < capacity) × (s .own .0 < mostNodes) ⌝ }
+    ensures { λ e. ⌜ Does s e (withBlock s b (proposed .0)) ⌝ }
+{
+    let k = s.count + 1;
+    let clock = kept_clock(s);
+    let own = s.own;
+    let voted = s.voted;
+    Effect {
+        row: Place(k),
+        block: b,
+        who: own,
+        clock: clock,
+        count: k,
+        voted: voted,
+        proposed: proposed,
+    }
 }
 
 // One voter more at a place.
-fn add_vote(s: State, place: Place, who: NodeNo, voted: Epoch) -> State
-    requires { ⌜ (place .0 ≤ s .count) × (s .count ≤ capacity) ⌝ }
-    ensures { λ t. ⌜ t ≡ withVote s (place .0) (who .0) (voted .0) ⌝ }
+fn vote_added(s: State, place: Place, who: NodeNo, voted: Epoch) -> Effect
+    requires { ⌜ (place .0 ≤ s .count) × (s .count ≤ capacity) × (s .own .0 < mostNodes) ⌝ }
+    ensures { λ e. ⌜ Does s e (withVote s (place .0) (who .0) (voted .0)) ⌝ }
 {
-    let mut next = s;
     let k = place.0;
     let i = k as usize;
     let b = with_voter(s.blocks[i], who);
-    next.blocks[i] = b;
-    next.voted = voted;
-    next
+    Effect {
+        row: place,
+        block: b,
+        who: s.own,
+        clock: kept_clock(s),
+        count: s.count,
+        voted: voted,
+        proposed: s.proposed,
+    }
 }
 
-// Another clock kept of a node.
-fn keep_clock(s: State, who: NodeNo, clock: Epoch) -> State
+// Another clock kept of a node; the genesis's row is written as it stands.
+fn clock_kept(s: State, who: NodeNo, clock: Epoch) -> Effect
     requires { ⌜ who .0 < mostNodes ⌝ }
-    ensures { λ t. ⌜ t ≡ withClock s (who .0) (clock .0) ⌝ }
+    ensures { λ e. ⌜ Does s e (withClock s (who .0) (clock .0)) ⌝ }
 {
-    let mut next = s;
-    let k = who.0;
-    let i = k as usize;
-    next.clocks[i] = clock;
-    next
+    let root = s.blocks[0];
+    Effect {
+        row: Place(0),
+        block: root,
+        who: who,
+        clock: clock,
+        count: s.count,
+        voted: s.voted,
+        proposed: s.proposed,
+    }
 }
 
 // The direct effect of a record that is taken.
-pub fn apply(s: State, f: Fields, place: Place) -> State
+pub fn effect_of(s: State, f: Fields, place: Place) -> Effect
     requires { ⌜ (wellShaped s ≡ true) × ((r : List ℕ) × Granted s f place r) ⌝ }
-    ensures { λ t. ⌜ ((r : List ℕ) → Granted s f place r → t ≡ effect s r) ⌝ }
+    ensures { λ e. ⌜ ((r : List ℕ) → Granted s f place r → Does s e (effect s r)) ⌝ }
 {
     let kind = f.kind;
     let name = f.name;
     let payload = f.payload;
     if kind == PROPOSAL_HEARD {
         let b = new_block(name, f.epoch, place, payload);
-        return add_block(s, b, s.proposed);
+        return block_added(s, b, s.proposed);
     }
     if kind == VOTE_HEARD {
-        return add_vote(s, place, f.sender, s.voted);
+        return vote_added(s, place, f.sender, s.voted);
     }
     if kind == CLOCK_HEARD {
-        return keep_clock(s, f.sender, f.epoch);
+        return clock_kept(s, f.sender, f.epoch);
     }
     if kind == PROPOSE_NOW {
         let b = new_block(name, s.local, place, payload);
-        return add_block(s, b, s.local);
+        return block_added(s, b, s.local);
     }
     if kind == CAST_NOW {
-        return add_vote(s, place, s.own, s.local);
+        return vote_added(s, place, s.own, s.local);
     }
-    keep_clock(s, s.own, Epoch(s.local.0 + 1))
+    clock_kept(s, s.own, Epoch(s.local.0 + 1))
 }

@@ -12,8 +12,8 @@ use Rattle.node.proofs.take_shaped.Tie as tie
 held : (c : tie.Start) → length (c .args .s .blocks) ≡ suc capacity
 held c = search length-unmap
 
-apply-requires : tie.Need-apply-requires
-apply-requires c κs =
+effect-of-requires : tie.Need-effect-of-requires
+effect-of-requires c κs =
     let k = c .before .before .pre in
     (k .0, (k .2 .0, granted _ _ (k .2 .1) (k .1)))
 
@@ -21,14 +21,15 @@ settle-requires : tie.Need-settle-requires
 settle-requires c κs =
     let k = c .before .before .before in
     let g = granted _ _ (k .pre .2 .1) (k .pre .1) in
-    granted-fresh (held k) (k .pre .0) g (c .apply .ensures _ g)
+    let d = c .effect-of .ensures _ g in
+    (granted-fresh (held k) (k .pre .0) g (d .makes), d .row, d .who)
 
 returns : tie.Need-returns
 returns c r e =
     let k = c .before .before .before .before .pre in
     c .settle .ensures
-    ∙ ap settled (c .before .apply .ensures r (granted _ r e (k .1)))
+    ∙ ap settled (c .before .effect-of .ensures r (granted _ r e (k .1)) .makes)
     ∙ decided-taken _ r (k .0) e (k .1)
 
 pub take-shaped-spec : {M : Type 1} → statement M
-take-shaped-spec = tie.close (tie.spec apply-requires settle-requires returns)
+take-shaped-spec = tie.close (tie.spec effect-of-requires settle-requires returns)

@@ -1,7 +1,7 @@
 -- The direct effect of a granted record, by its kind. Assumes nothing.
 use Prim.Native.Nat.{ℕ, suc}
 use mathlib.Core.List.{List}
-use mathlib.Core.Path.{_≡_, refl, _∙_}
+use mathlib.Core.Path.{_≡_, refl}
 use native.Mathlib.Omega.{arith}
 use borrow.Author.Needs.{needs}
 use lib.ListN.{length}
@@ -11,8 +11,9 @@ use Rattle.pala.specs.Record.{minuteUp}
 use Rattle.pala.proofs.Shapes.{shaped-count}
 use Rattle.node.specs.Moves.{Granted}
 use Rattle.node.proofs.Grants.{last-kind, room-left, minute-left, own-below, sender-below, vote-held, cast-held, proposal-done, vote-done, clock-done, propose-done, cast-done, minute-done}
-use Rattle.node.proofs.effects.apply.Statement.{statement}
-use Rattle.node.proofs.effects.apply.Tie as tie
+use Rattle.node.proofs.Stores.{does-as}
+use Rattle.node.proofs.effects.effect_of.Statement.{statement}
+use Rattle.node.proofs.effects.effect_of.Tie as tie
 
 held : (c : tie.Start) → length (c .args .s .blocks) ≡ suc capacity
 held c = search length-unmap
@@ -20,50 +21,50 @@ held c = search length-unmap
 new-block-requires : tie.Need-new-block-requires
 new-block-requires c κs = search needs
 
-add-block-requires : tie.Need-add-block-requires
-add-block-requires c κs =
+block-added-requires : tie.Need-block-added-requires
+block-added-requires c κs =
     let s = c .before .before .before .before in
-    room-left (s .pre .1 .1) (c .before .if1 .taken) refl
+    (room-left (s .pre .1 .1) (c .before .if1 .taken) refl, own-below (s .pre .1 .1) (s .pre .0))
 
 returns : tie.Need-returns
 returns c r g =
-    c .add-block .ensures ∙ proposal-done g (c .before .before .if1 .taken) (c .before .new-block .ensures)
+    does-as (c .block-added .ensures) (proposal-done g (c .before .before .if1 .taken) (c .before .new-block .ensures))
 
-add-vote-requires : tie.Need-add-vote-requires
-add-vote-requires c κs =
+vote-added-requires : tie.Need-vote-added-requires
+vote-added-requires c κs =
     let s = c .before .before .before .before in
-    (vote-held (s .pre .1 .1) (s .pre .0) (held s) (c .if2 .taken), shaped-count _ (s .pre .0))
+    (vote-held (s .pre .1 .1) (s .pre .0) (held s) (c .if2 .taken), shaped-count _ (s .pre .0), own-below (s .pre .1 .1) (s .pre .0))
 
 returns-2 : tie.Need-returns-2
-returns-2 c r g = c .add-vote .ensures ∙ vote-done g (c .before .if2 .taken)
+returns-2 c r g = does-as (c .vote-added .ensures) (vote-done g (c .before .if2 .taken))
 
-keep-clock-requires : tie.Need-keep-clock-requires
-keep-clock-requires c κs =
+clock-kept-requires : tie.Need-clock-kept-requires
+clock-kept-requires c κs =
     let s = c .before .before .before .before .before in
     sender-below (s .pre .1 .1) (s .pre .0)
 
 returns-3 : tie.Need-returns-3
-returns-3 c r g = c .keep-clock .ensures ∙ clock-done g (c .before .if3 .taken)
+returns-3 c r g = does-as (c .clock-kept .ensures) (clock-done g (c .before .if3 .taken))
 
 new-block-requires-2 : tie.Need-new-block-requires-2
 new-block-requires-2 c κs = search needs
 
-add-block-requires-2 : tie.Need-add-block-requires-2
-add-block-requires-2 c κs =
+block-added-requires-2 : tie.Need-block-added-requires-2
+block-added-requires-2 c κs =
     let s = c .before .before .before .before .before .before .before in
-    room-left (s .pre .1 .1) (c .before .if4 .taken) refl
+    (room-left (s .pre .1 .1) (c .before .if4 .taken) refl, own-below (s .pre .1 .1) (s .pre .0))
 
 returns-4 : tie.Need-returns-4
 returns-4 c r g =
-    c .add-block2 .ensures ∙ propose-done g (c .before .before .if4 .taken) (c .before .new-block2 .ensures)
+    does-as (c .block-added2 .ensures) (propose-done g (c .before .before .if4 .taken) (c .before .new-block2 .ensures))
 
-add-vote-requires-2 : tie.Need-add-vote-requires-2
-add-vote-requires-2 c κs =
+vote-added-requires-2 : tie.Need-vote-added-requires-2
+vote-added-requires-2 c κs =
     let s = c .before .before .before .before .before .before .before in
-    (cast-held (s .pre .1 .1) (s .pre .0) (held s) (c .if5 .taken), shaped-count _ (s .pre .0))
+    (cast-held (s .pre .1 .1) (s .pre .0) (held s) (c .if5 .taken), shaped-count _ (s .pre .0), own-below (s .pre .1 .1) (s .pre .0))
 
 returns-5 : tie.Need-returns-5
-returns-5 c r g = c .add-vote2 .ensures ∙ cast-done g (c .before .if5 .taken)
+returns-5 c r g = does-as (c .vote-added2 .ensures) (cast-done g (c .before .if5 .taken))
 
 -- where no test holds
 sixth :
@@ -78,30 +79,30 @@ add-t10 c =
     let g = c .before .before .before .before .before .before .before .before .pre .1 .1 in
     omega (arith, minute-left g (sixth (c .before) g))
 
-keep-clock-requires-2 : tie.Need-keep-clock-requires-2
-keep-clock-requires-2 c κs =
+clock-kept-requires-2 : tie.Need-clock-kept-requires-2
+clock-kept-requires-2 c κs =
     let s = c .before .before .before .before .before .before .before .before in
     own-below (s .pre .1 .1) (s .pre .0)
 
 returns-6 : tie.Need-returns-6
-returns-6 c r g = c .keep-clock2 .ensures ∙ minute-done g (sixth (c .before .before) g)
+returns-6 c r g = does-as (c .clock-kept2 .ensures) (minute-done g (sixth (c .before .before) g))
 
-pub apply-spec : {M : Type 1} → statement M
-apply-spec =
+pub effect-of-spec : {M : Type 1} → statement M
+effect-of-spec =
     tie.close
     (tie.spec
     new-block-requires
-    add-block-requires
+    block-added-requires
     returns
-    add-vote-requires
+    vote-added-requires
     returns-2
-    keep-clock-requires
+    clock-kept-requires
     returns-3
     new-block-requires-2
-    add-block-requires-2
+    block-added-requires-2
     returns-4
-    add-vote-requires-2
+    vote-added-requires-2
     returns-5
     add-t10
-    keep-clock-requires-2
+    clock-kept-requires-2
     returns-6)

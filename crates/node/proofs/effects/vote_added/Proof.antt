@@ -1,14 +1,13 @@
--- One voter more: the row at a place stored with him. Assumes nothing.
+-- One voter more: the row at a place with him. Assumes nothing.
 use Prim.Native.Nat.{suc}
 use mathlib.Core.Path.{_≡_}
 use borrow.Author.Needs.{needs}
 use lib.ListN.{length}
 use Rattle.table.specs.Rows.{capacity}
 use Rattle.table.proofs.Laws.{length-unmap}
-use Rattle.pala.specs.Effects.{put}
-use Rattle.node.proofs.Stores.{vote-stored}
-use Rattle.node.proofs.effects.add_vote.Statement.{statement}
-use Rattle.node.proofs.effects.add_vote.Tie as tie
+use Rattle.node.proofs.Stores.{vote-does}
+use Rattle.node.proofs.effects.vote_added.Statement.{statement}
+use Rattle.node.proofs.effects.vote_added.Tie as tie
 
 held : (c : tie.Start) → length (c .args .t1 .blocks) ≡ suc capacity
 held c = search length-unmap
@@ -25,26 +24,22 @@ element-copy-out-with-voter c = search needs
 with-voter-requires : tie.Need-with-voter-requires
 with-voter-requires c κs = search needs
 
-mul-b : tie.Need-mul-b
-mul-b c = search needs
-
-element-set-from-b : tie.Need-element-set-from-b
-element-set-from-b c = search needs
+kept-clock-requires : tie.Need-kept-clock-requires
+kept-clock-requires c κs = search needs
 
 returns : tie.Need-returns
-unfolding put
 returns c =
-    let s = c .before .before in
-    vote-stored _ (held s) _ _ _ _ _ (s .pre .0) (s .pre .1) (c .with-voter .ensures)
+    let w = c .before .before .before in
+    let s = w .before .before in
+    vote-does _ (held s) _ _ _ _ _ _ _ (s .pre .0) (s .pre .1) (s .pre .2) (w .with-voter .ensures) (c .before .kept-clock .ensures)
 
-pub add-vote-spec : {M : Type 1} → statement M
-add-vote-spec =
+pub vote-added-spec : {M : Type 1} → statement M
+vote-added-spec =
     tie.close
     (tie.spec
     cast-i
     mul-with-voter
     element-copy-out-with-voter
     with-voter-requires
-    mul-b
-    element-set-from-b
+    kept-clock-requires
     returns)
