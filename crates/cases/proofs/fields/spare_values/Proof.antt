@@ -1,0 +1,66 @@
+use Prim.Native.Nat.{_-_, _≤_}
+use native.Mathlib.Omega.{arith}
+use borrow.Author.Needs.{needs}
+use Rattle.cases.proofs.fields.spare_values.Statement.{statement}
+use Rattle.cases.proofs.fields.spare_values.Tie as tie
+
+abbrev Inv-loop : tie.InvT-loop
+Inv-loop kind at s rec t₀ byte₀ t byte = byte ≤ 255
+
+abbrev μ-loop : tie.MeasureT-loop
+μ-loop kind at s rec t₀ byte₀ t byte = 255 - byte
+
+state-for-requires : tie.Need-state-for-requires Inv-loop μ-loop
+state-for-requires c κs = search needs
+
+good-of-requires : tie.Need-good-of-requires Inv-loop μ-loop
+good-of-requires c κs = search needs
+
+none-requires : tie.Need-none-requires Inv-loop μ-loop
+none-requires c κs = search needs
+
+loop-holds : tie.Need-loop-holds Inv-loop μ-loop
+loop-holds c = search needs
+
+with-byte-requires : tie.Need-with-byte-requires Inv-loop μ-loop
+with-byte-requires c κs = search needs
+
+answers-requires : tie.Need-answers-requires Inv-loop μ-loop
+answers-requires c κs = search needs
+
+counted-requires : tie.Need-counted-requires Inv-loop μ-loop
+counted-requires c κs = search needs
+
+add-byte : tie.Need-add-byte Inv-loop μ-loop
+add-byte c = omega arith
+
+loop-less : tie.Need-loop-less Inv-loop μ-loop
+loop-less c = omega arith
+
+loop-again : tie.Need-loop-again Inv-loop μ-loop
+loop-again c = search needs
+
+returns : tie.Need-returns Inv-loop μ-loop
+returns c = tt
+
+returns-2 : tie.Need-returns-2 Inv-loop μ-loop
+returns-2 c = tt
+
+pub spare-values-spec : {M : Type 1} → statement M
+spare-values-spec =
+    tie.close
+    (tie.spec
+    Inv-loop
+    μ-loop
+    state-for-requires
+    good-of-requires
+    none-requires
+    loop-holds
+    with-byte-requires
+    answers-requires
+    counted-requires
+    add-byte
+    loop-less
+    loop-again
+    returns
+    returns-2)
