@@ -24,10 +24,12 @@ use table::State;
 
 // An epoch above all of the session's.
 pub const LATE: u32 = 9;
+// An epoch that is node 0's turn.
+pub const OWN_EPOCH: u32 = 4;
 
 // The session's state after record 8 and clocks of 4: the turn is node 0's own, and B is the freshest block.
 pub fn own_turn() -> State {
-    clocked(after_last(), Epoch(4))
+    clocked(after_last(), Epoch(OWN_EPOCH))
 }
 
 // A state on which `good_of` of that kind is taken; no run has a block to vote for and a proposal to make at once.

@@ -5,22 +5,27 @@ use crate::calls::clocked;
 use crate::harms::BAR;
 use crate::harms::KEPT;
 use crate::harms::LOCAL;
+use crate::harms::PROPOSED;
 use crate::harms::VOTED;
 use crate::harms::with_field;
 use crate::kinds::LATE;
+use crate::kinds::OWN_EPOCH;
 use crate::kinds::own_turn;
 use crate::records::A;
 use crate::records::B;
 use crate::records::C;
 use crate::records::D;
 use crate::records::GENESIS;
+use crate::records::NO_PAYLOAD;
 use crate::records::SEVENS;
 use crate::records::TOP_EPOCH;
+use crate::records::VOTE;
 use crate::records::cast;
 use crate::records::clock;
 use crate::records::minute;
 use crate::records::proposal;
 use crate::records::propose;
+use crate::records::record_of;
 use crate::records::vote;
 use crate::say::heading;
 use crate::session::EPOCH_OF_A;
@@ -48,6 +53,8 @@ const TOP: Epoch = Epoch(TOP_EPOCH);
 const SECOND: NodeNo = NodeNo(2);
 // "all else 0": no epoch voted in.
 const NEVER: u32 = 0;
+// A number that is no node's.
+const STRANGER: NodeNo = NodeNo(9);
 // Names at a table of 64: the last block's, and one that is new.
 const LAST_NAME: u8 = 64;
 
@@ -137,10 +144,30 @@ fn repeats() {
     );
     labelled(
         b"64 blocks, ",
-        clocked(chain, Epoch(4)),
+        clocked(chain, Epoch(OWN_EPOCH)),
         propose(OWN, NEW_NAME, SEVENS),
     );
     labelled(b"64 blocks, ", chain, vote(NodeNo(1), LAST_NAME));
+}
+
+// "the answer is the lowest number that applies": two rows apply to each.
+fn lowest_rows() {
+    heading(b"The lowest row that applies, of two");
+    let s = own_turn();
+    let chain = full(Table::Chain);
+    let proposed = with_field(after_last(), PROPOSED, EPOCH_OF_B + 1);
+    let spent = with_field(clocked(chain, Epoch(OWN_EPOCH)), PROPOSED, OWN_EPOCH);
+    let dated = record_of(VOTE, STRANGER, Epoch(5), B, GENESIS, NO_PAYLOAD);
+    let turnless = proposal(NodeNo(2), Epoch(1), NEW_NAME, GENESIS);
+    labelled(b"rows 5 and 6, ", s, dated);
+    labelled(b"rows 6 and 7, ", s, clock(STRANGER, Epoch(0)));
+    labelled(b"rows 7 and 8, ", s, proposal(NodeNo(1), Epoch(0), A, B));
+    labelled(b"rows 8 and 9, ", s, proposal(NodeNo(1), Epoch(5), A, D));
+    labelled(b"rows 9 and 11, ", s, proposal(NodeNo(3), Epoch(5), C, D));
+    labelled(b"rows 10 and 11, ", s, proposal(NodeNo(3), Epoch(1), C, B));
+    labelled(b"rows 11 and 12, ", proposed, propose(OWN, C, SEVENS));
+    labelled(b"rows 11 and 14, ", chain, turnless);
+    labelled(b"rows 12 and 14, ", spent, propose(OWN, NEW_NAME, SEVENS));
 }
 
 // With one node there is nobody to hear from.
@@ -189,6 +216,7 @@ pub fn show() {
     last_epoch();
     names_and_turns();
     repeats();
+    lowest_rows();
     alone();
     unreached();
 }
