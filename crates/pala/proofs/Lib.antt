@@ -3,6 +3,22 @@ pub mod Counts
 pub mod Rows
 pub mod Cases
 pub mod Examples
+-- states and records by hand for the cases below
+pub mod States
+-- each field at its bytes, the fields that each kind uses
+pub mod RecordCases
+-- each clause of the shape broken
+pub mod ShapeCases
+-- each row of the answers for each kind that it names, and starts
+pub mod AnswerCases
+-- the whole state and out buffer after a record of each kind
+pub mod EffectCases
+-- the rules behind the five steps
+pub mod RuleCases
+-- final lists, relations with index, code and tail, runs
+pub mod ReadCases
+-- numbers in digits, short inputs
+pub mod LineCases
 -- the shape and what keeps it
 pub mod Tests
 pub mod Falls
