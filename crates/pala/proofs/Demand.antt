@@ -16,10 +16,8 @@ pub mod Casts
 pub mod Names
 pub mod Honest
 pub mod Safety
--- premises by event, own votes, never taken back, the bytes written, two concrete runs
+-- premises by event, own votes, never taken back, the bytes written
 pub mod Events
 pub mod OwnVotes
 pub mod Onward
 pub mod Shown
-pub mod Checked
-pub mod Witness

@@ -11,17 +11,17 @@ use lib.ListN.{length, getD}
 use Rattle.table.specs.Scan.{pick, count, allBelow}
 use Rattle.table.specs.Bytes.{same}
 use Rattle.table.specs.declared.State.{State}
 use Rattle.pala.specs.Answers.{taken}
 use Rattle.pala.specs.Cases.{letter, hear, vote, clock, A, B, C, A′}
 use Rattle.pala.specs.Counts.{noName, noPayload}
 use Rattle.pala.specs.Record.{message, proposeNow, castNow, minuteUp}
 use Rattle.pala.specs.Run.{lent}
 use Rattle.pala.specs.Step.{step, start}
 use Rattle.pala.specs.Safety.{Event, Run, Honest, NoForgedVote, OneBlockOneName, Book, shownAt, OneBegins}
 use Rattle.pala.specs.Events.{EachTaken, EventPremises}
-use Rattle.pala.proofs.Demand.Checked.{eventTest, each-tested}
+use Rattle.witness.proofs.Checked.{eventTest, each-tested}
 use Rattle.pala.proofs.Demand.Events.{cast-by-event, fits-by-event, by-event}
 use Rattle.pala.proofs.Demand.Safety.{safe}
 
 -- gateway i is put a record
 unfoldable pub put : ℕ → List ℕ → Event
