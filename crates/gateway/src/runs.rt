@@ -5,6 +5,7 @@ use node::answers::is_taken;
 use node::decide_shaped;
 use node::start;
 use node::take_shaped;
+use record::RECORD_BYTES;
 use shape::nodes;
 use table::NodeNo;
 use table::State;
@@ -15,7 +16,6 @@ ghost use lib.ListN.{length};
 ghost use Rattle.pala.specs.Run.{Ran, run, played, stretches};
 ghost use Rattle.pala.specs.Shape.{wellShaped};
 
-const RECORD_BYTES: usize = 96;
 // "list buffer under 2,048 bytes"
 const FULL_LIST: usize = 2048;
 // "refusal x 65,536 + count of final names"

@@ -6,6 +6,7 @@ use node::answers::is_taken;
 use node::answers::number_of;
 use node::decide_shaped;
 use node::take_shaped;
+use record::RECORD_BYTES;
 use shape::well_shaped;
 use table::Answer;
 use table::Place;
@@ -18,7 +19,6 @@ ghost use Rattle.table.specs.Scan.{pick};
 ghost use Rattle.pala.specs.Lists.{finalNames};
 ghost use Rattle.lines.specs.Play.{Piece, Ready, piece, playPiece};
 
-const RECORD_BYTES: usize = 96;
 // The longest line, and the last number of a record that can be printed.
 const LINE_MOST: usize = 49;
 
