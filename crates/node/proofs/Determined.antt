@@ -3,7 +3,6 @@ use mathlib.Core.Path.{_≡_, ap}
 use Rattle.node.proofs.answers.number_of.Reads as number-of
 use Rattle.node.proofs.answers.is_taken.Reads as is-taken
 use Rattle.node.proofs.step.Reads as step
-use Rattle.node.proofs.step_shaped.Reads as step-shaped
 use Rattle.node.proofs.decide_shaped.Reads as decide-shaped
 use Rattle.node.proofs.take_shaped.Reads as take-shaped
 use Rattle.pala.specs.Step.{Outcome, Started}
@@ -19,10 +18,6 @@ is-taken-one κs a r q s t = one-outcome
 
 step-one : (κs : _) (a : _) (r q : _) (s t : _) → step.Post κs a r s → step.Post κs a q t → (r ≡ q) × (now (s .1 .1 .0) ≡ now (t .1 .1 .0))
 step-one κs a r q s t p h =
-    (ap (λ (o : Outcome). record { answer = o .answer; state = o .state }) (one-outcome p h), ap (λ (o : Outcome). o .out) (one-outcome p h))
-
-step-shaped-one : (κs : _) (a : _) (r q : _) (s t : _) → step-shaped.Post κs a r s → step-shaped.Post κs a q t → (r ≡ q) × (now (s .1 .1 .0) ≡ now (t .1 .1 .0))
-step-shaped-one κs a r q s t p h =
     (ap (λ (o : Outcome). record { answer = o .answer; state = o .state }) (one-outcome p h), ap (λ (o : Outcome). o .out) (one-outcome p h))
 
 start-one : (κs : _) (a : _) (r q : _) (s t : _) → start.Post κs a r s → start.Post κs a q t → r ≡ q

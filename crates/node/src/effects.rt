@@ -1,11 +1,11 @@
 // "First the direct effect." It is told in a few numbers and one block, so that only one function makes a new state.
 
-use crate::kinds::CAST_NOW;
-use crate::kinds::CLOCK_HEARD;
-use crate::kinds::PROPOSAL_HEARD;
-use crate::kinds::PROPOSE_NOW;
-use crate::kinds::VOTE_HEARD;
 use record::Fields;
+use record::kinds::CAST_NOW;
+use record::kinds::CLOCK_HEARD;
+use record::kinds::PROPOSAL_HEARD;
+use record::kinds::PROPOSE_NOW;
+use record::kinds::VOTE_HEARD;
 use table::Block;
 use table::Epoch;
 use table::MOST_NODES;

@@ -1,7 +1,6 @@
 // Rows 7 to 14 for each kind of record, one early return for each test, in the order of the rows.
 
 use crate::Move;
-use crate::kinds::TOP_EPOCH;
 use crate::moves::clock_from;
 use crate::moves::refused;
 use record::Fields;
@@ -23,6 +22,9 @@ ghost use Rattle.pala.specs.Record.{proposalHeard, voteHeard, clockHeard, propo
 ghost use Rattle.pala.specs.Shape.{wellShaped};
 ghost use Rattle.record.specs.Fields.{fieldsOf};
 ghost use Rattle.node.specs.Moves.{judged};
+
+// "local epochs from 1 to 4,294,967,295"
+const TOP_EPOCH: u32 = 4294967295;
 
 // "1 proposal heard"
 pub fn judge_proposal(s: State, f: Fields) -> Move

@@ -6,7 +6,6 @@ pub mod answers;
 mod decide;
 mod effects;
 mod judges;
-mod kinds;
 mod moves;
 mod sending;
 mod settling;

@@ -1,12 +1,12 @@
 // "Kinds 4, 5 and 6, when taken, write the record to send there: kind 1, 2 or 3 with own number as sender."
 
-use crate::kinds::CAST_NOW;
-use crate::kinds::CLOCK_HEARD;
-use crate::kinds::MINUTE_UP;
-use crate::kinds::PROPOSAL_HEARD;
-use crate::kinds::PROPOSE_NOW;
-use crate::kinds::VOTE_HEARD;
 use record::Fields;
+use record::kinds::CAST_NOW;
+use record::kinds::CLOCK_HEARD;
+use record::kinds::MINUTE_UP;
+use record::kinds::PROPOSAL_HEARD;
+use record::kinds::PROPOSE_NOW;
+use record::kinds::VOTE_HEARD;
 use record::write;
 use table::Epoch;
 use table::NAME_BYTES;

@@ -1,5 +1,9 @@
 // "Fields a kind doesn't use are zero."
 
+use crate::kinds::CLOCK_HEARD;
+use crate::kinds::PROPOSAL_HEARD;
+use crate::kinds::PROPOSE_NOW;
+use crate::kinds::VOTE_HEARD;
 use table::PAYLOAD_BYTES;
 use table::names::zero_name;
 ghost use mathlib.Core.Path.{_≡_};
@@ -7,15 +11,6 @@ ghost use mathlib.Core.Bool.{_||_};
 ghost use mathlib.Core.List.{[], _∷_};
 ghost use Rattle.table.specs.Bytes.{zeros};
 ghost use Rattle.pala.specs.Record.{usesEpoch, usesName, usesParent, usesPayload};
-
-// "1 proposal heard"
-const PROPOSAL_HEARD: u32 = 1;
-// "2 vote heard"
-const VOTE_HEARD: u32 = 2;
-// "3 clock heard"
-const CLOCK_HEARD: u32 = 3;
-// "4 propose now"
-const PROPOSE_NOW: u32 = 4;
 
 // Do records of a kind use the epoch.
 pub fn uses_epoch(kind: u32) -> bool

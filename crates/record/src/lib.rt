@@ -3,6 +3,7 @@
 
 mod copy;
 mod filler;
+pub mod kinds;
 mod reading;
 mod writing;
 

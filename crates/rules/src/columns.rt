@@ -5,11 +5,11 @@ use table::CAPACITY;
 use table::Epoch;
 use table::Place;
 use table::State;
+use table::rows::size_of;
 use table::voters::votes;
 ghost use mathlib.Core.Path.{_≡_};
-ghost use Prim.Native.Nat.{suc, min};
 ghost use Rattle.pala.specs.Rules.{lower};
-ghost use Rattle.rules.specs.Columns.{columns, markAt, numberAt, places};
+ghost use Rattle.rules.specs.Columns.{columns, markAt, numberAt};
 
 // Of each place its block's parent and epoch, and whether its votes reach the quorum; and how many rows the table has.
 pub struct Columns {
@@ -17,16 +17,6 @@ pub struct Columns {
     pub epochs: [u32; 65],
     pub marks: [bool; 65],
     pub size: u32,
-}
-
-// How many rows a table of so many blocks has; a count above the capacity, which no state of 01 has, gives no more.
-fn size_of(count: u32) -> u32
-    ensures { λ r. ⌜ r ≡ min (suc count) places ⌝ }
-{
-    if CAPACITY < count {
-        return CAPACITY + 1;
-    }
-    count + 1
 }
 
 // The columns of a state. A place past the end shows the root.

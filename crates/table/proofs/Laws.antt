@@ -125,10 +125,6 @@ lowest-lowest (suc k) ok =
     pick-case (Lowest (suc k) ok) (ltb w k) w (pick (ok k) k (suc k)) (λ e. found k ok w ih (ltb-true w k e))
     (λ e. end (here k ok w ih (ltb-false w k e)) (nowhere k ok w ih (ltb-false w k e)))
 
-pub lowest-step : (k : ℕ) (ok : ℕ → Bool) → lowest (k + 1) ok ≡ pick (ltb (lowest k ok) k) (lowest k ok) (pick (ok k) k (k + 1))
-unfolding lowest
-lowest-step k ok = rw add-one
-
 pub lowest-le : (k : ℕ) (ok : ℕ → Bool) → lowest k ok ≤ k
 lowest-le k ok = lowest-lowest k ok .within
 

@@ -32,7 +32,7 @@ pub fn at(s: State, p: Place) -> Block
 }
 
 // How many rows a table of so many blocks has; a count above the capacity, which no state of 01 has, gives no more.
-fn size_of(count: u32) -> u32
+pub fn size_of(count: u32) -> u32
     ensures { λ r. ⌜ r ≡ min (suc count) (suc capacity) ⌝ }
 {
     if CAPACITY < count {

@@ -1,4 +1,4 @@
-// The kinds of a record, and the highest epoch.
+// The kinds of a record.
 
 // "1 proposal heard, 2 vote heard, 3 clock heard, 4 propose now, 5 cast a vote now, 6 the minute is up"
 pub const PROPOSAL_HEARD: u32 = 1;
@@ -12,6 +12,3 @@ pub const PROPOSE_NOW: u32 = 4;
 pub const CAST_NOW: u32 = 5;
 
 pub const MINUTE_UP: u32 = 6;
-
-// "local epochs from 1 to 4,294,967,295"
-pub const TOP_EPOCH: u32 = 4294967295;
