@@ -3,84 +3,91 @@ use Prim.Native.Nat.{ℕ, zero, suc, _+_, _-_, _*_, _/_, _≤_, _<_, min}
 use mathlib.Core.List.{List, [], _∷_, _++_, append-assoc}
 use mathlib.Core.Path.{_≡_, refl, sym, ap, _∙_}
 use native.Mathlib.Decide.{decLe}
-use native.Mathlib.Nat.{add-zero}
+use native.Mathlib.Nat.{add-zero, suc-mul}
 use native.Mathlib.Omega.{arith}
 use lib.ListN.{length, take, drop, length-append, length-drop, drop-of-length-le}
 use lib.Seq.{take-append-le, drop-append-le, drop-drop, take-all}
 use Rattle.table.specs.declared.State.{State}
 use Rattle.pala.specs.Record.{recordBytes}
-use Rattle.pala.specs.Run.{stretchesIn, stretches, played, lent}
+use Rattle.pala.specs.Run.{cutIn, cut, stretches, played, lent}
 use Rattle.pala.specs.Step.{step}
 use Rattle.pala.specs.Lines.{lineOf, lines}
 
--- ---- stretches
+-- ---- stretches of any size
 
--- more steps than there are bytes change nothing
-stretches-fuel : (k j : ℕ) (bytes : List ℕ) → length bytes ≤ k → length bytes ≤ j → stretchesIn k bytes ≡ stretchesIn j bytes
-unfolding stretchesIn
-stretches-fuel zero zero bytes h g = refl
-stretches-fuel zero (suc j) [] h g = refl
-stretches-fuel zero (suc j) (b ∷ bytes) h g = absurd (omega arith)
-stretches-fuel (suc k) zero [] h g = refl
-stretches-fuel (suc k) zero (b ∷ bytes) h g = absurd (omega arith)
-stretches-fuel (suc k) (suc j) [] h g = refl
-stretches-fuel (suc k) (suc j) (b ∷ bytes) h g =
-    let short : length (drop recordBytes (b ∷ bytes)) ≤ length bytes = omega (arith, length-drop recordBytes (b ∷ bytes)) in
-    ap (λ (l : List (List ℕ)). take recordBytes (b ∷ bytes) ∷ l)
-    (stretches-fuel k j (drop recordBytes (b ∷ bytes)) (omega arith) (omega arith))
+module _ (size : ℕ) (some : 1 ≤ size) where
+  -- more steps than there are bytes change nothing
+  cut-fuel : (k j : ℕ) (bytes : List ℕ) → length bytes ≤ k → length bytes ≤ j → cutIn size k bytes ≡ cutIn size j bytes
+  unfolding cutIn
+  cut-fuel zero zero bytes h g = refl
+  cut-fuel zero (suc j) [] h g = refl
+  cut-fuel zero (suc j) (b ∷ bytes) h g = absurd (omega arith)
+  cut-fuel (suc k) zero [] h g = refl
+  cut-fuel (suc k) zero (b ∷ bytes) h g = absurd (omega arith)
+  cut-fuel (suc k) (suc j) [] h g = refl
+  cut-fuel (suc k) (suc j) (b ∷ bytes) h g =
+      let short : length (drop size (b ∷ bytes)) ≤ length bytes = omega (arith, length-drop size (b ∷ bytes)) in
+      ap (λ (l : List (List ℕ)). take size (b ∷ bytes) ∷ l) (cut-fuel k j (drop size (b ∷ bytes)) (omega arith) (omega arith))
 
--- no byte, no stretch
-pub stretches-none : stretches [] ≡ []
-unfolding stretches
-stretches-none = refl
+  -- no byte, no stretch
+  pub cut-none : cut size [] ≡ []
+  unfolding cut
+  cut-none = refl
 
--- the first stretch, and then those of what is left
-pub stretches-more : (bytes : List ℕ) → 0 < length bytes → stretches bytes ≡ take recordBytes bytes ∷ stretches (drop recordBytes bytes)
-unfolding stretches
-stretches-more [] h = absurd (omega arith)
-stretches-more (b ∷ bytes) h =
-    let short : length (drop recordBytes (b ∷ bytes)) ≤ length bytes = omega (arith, length-drop recordBytes (b ∷ bytes)) in
-    unfold stretchesIn in
-    ap (λ (l : List (List ℕ)). take recordBytes (b ∷ bytes) ∷ l)
-    (stretches-fuel (length bytes) (length (drop recordBytes (b ∷ bytes))) (drop recordBytes (b ∷ bytes)) (omega arith) (omega arith))
+  -- the first stretch, and then those of what is left
+  pub cut-more : (bytes : List ℕ) → 0 < length bytes → cut size bytes ≡ take size bytes ∷ cut size (drop size bytes)
+  unfolding cut
+  cut-more [] h = absurd (omega arith)
+  cut-more (b ∷ bytes) h =
+      let short : length (drop size (b ∷ bytes)) ≤ length bytes = omega (arith, length-drop size (b ∷ bytes)) in
+      unfold cutIn in
+      ap (λ (l : List (List ℕ)). take size (b ∷ bytes) ∷ l)
+      (cut-fuel (length bytes) (length (drop size (b ∷ bytes))) (drop size (b ∷ bytes)) (omega arith) (omega arith))
 
--- whole records, and then the rest
-pub stretches-append :
-    (k : ℕ) (xs ys : List ℕ) → length xs ≡ recordBytes * k → stretches (xs ++ ys) ≡ stretches xs ++ stretches ys
-stretches-append zero [] ys h = sym (ap (λ (l : List (List ℕ)). l ++ stretches ys) stretches-none)
-stretches-append zero (x ∷ xs) ys h = absurd (omega arith)
-stretches-append (suc k) xs ys h =
-    stretches-more (xs ++ ys) (omega (arith, length-append xs ys))
-    ∙ ap (λ (l : List ℕ). l ∷ stretches (drop recordBytes (xs ++ ys))) (take-append-le recordBytes xs ys (omega arith))
-    ∙ ap (λ (l : List ℕ). take recordBytes xs ∷ stretches l) (drop-append-le recordBytes xs ys (omega arith))
-    ∙ ap (λ (l : List (List ℕ)). take recordBytes xs ∷ l)
-    (stretches-append k (drop recordBytes xs) ys (omega (arith, length-drop recordBytes xs)))
-    ∙ ap (λ (l : List (List ℕ)). l ++ stretches ys) (sym (stretches-more xs (omega arith)))
+  -- whole stretches, and then the rest
+  pub cut-append : (k : ℕ) (xs ys : List ℕ) → length xs ≡ k * size → cut size (xs ++ ys) ≡ cut size xs ++ cut size ys
+  cut-append zero [] ys h = sym (ap (λ (l : List (List ℕ)). l ++ cut size ys) cut-none)
+  cut-append zero (x ∷ xs) ys h = absurd (omega arith)
+  cut-append (suc k) xs ys h =
+      let whole : length xs ≡ k * size + size = h ∙ suc-mul k size in
+      cut-more (xs ++ ys) (omega (arith, length-append xs ys))
+      ∙ ap (λ (l : List ℕ). l ∷ cut size (drop size (xs ++ ys))) (take-append-le size xs ys (omega arith))
+      ∙ ap (λ (l : List ℕ). take size xs ∷ cut size l) (drop-append-le size xs ys (omega arith))
+      ∙ ap (λ (l : List (List ℕ)). take size xs ∷ l) (cut-append k (drop size xs) ys (omega (arith, length-drop size xs)))
+      ∙ ap (λ (l : List (List ℕ)). l ++ cut size ys) (sym (cut-more xs (omega arith)))
 
--- there is one for each 96 bytes begun
-countIn : (k : ℕ) (bytes : List ℕ) → length bytes ≤ k → length (stretchesIn k bytes) ≡ (length bytes + 95) / recordBytes
-unfolding stretchesIn
-countIn zero [] h = refl
-countIn zero (b ∷ bytes) h = absurd (omega arith)
-countIn (suc k) [] h = refl
-countIn (suc k) (b ∷ bytes) h =
-    let left : length (drop recordBytes (b ∷ bytes)) ≡ suc (length bytes) - recordBytes = length-drop recordBytes (b ∷ bytes) in
-    omega (arith, countIn k (drop recordBytes (b ∷ bytes)) (omega arith))
+  -- there is one for each stretch begun
+  abbrev Counts : ℕ → ℕ → Type 0
+  Counts long many = (long ≤ many * size) × (many * size < long + size) × (long ≡ 0 → many * size ≡ 0)
 
-pub stretches-count : (bytes : List ℕ) → length (stretches bytes) ≡ (length bytes + 95) / recordBytes
-unfolding stretches
-stretches-count bytes = countIn (length bytes) bytes (omega arith)
+  cutIn-count : (k : ℕ) (bytes : List ℕ) → length bytes ≤ k → Counts (length bytes) (length (cutIn size k bytes))
+  unfolding cutIn
+  cutIn-count zero [] h = (omega arith, omega arith, λ _. omega arith)
+  cutIn-count zero (b ∷ bytes) h = absurd (omega arith)
+  cutIn-count (suc k) [] h = (omega arith, omega arith, λ _. omega arith)
+  cutIn-count (suc k) (b ∷ bytes) h =
+      let left : length (drop size (b ∷ bytes)) ≡ suc (length bytes) - size = length-drop size (b ∷ bytes) in
+      let rest = cutIn-count k (drop size (b ∷ bytes)) (omega arith) in
+      let more = suc-mul (length (cutIn size k (drop size (b ∷ bytes)))) size in (
+        omega (arith, rest .0, more),
+        elim (decLe (suc (length bytes)) size) [ yes l ↦ omega (arith, rest .2 (omega arith), more) | no l ↦ omega (arith, rest .1, more) ],
+        λ z. absurd (omega arith),
+      )
 
--- a stretch is 96 bytes, or what is left where that is less
-cut : (d : List ℕ) (size : ℕ) → size ≡ min (length d) recordBytes → (take recordBytes d ≡ take size d) × (drop recordBytes d ≡ drop size d)
-cut d size e =
-    elim (decLe recordBytes (length d)) [
+  pub cut-count : (bytes : List ℕ) → (length bytes ≤ length (cut size bytes) * size) × (length (cut size bytes) * size < length bytes + size)
+  unfolding cut
+  cut-count bytes = let counted = cutIn-count (length bytes) bytes (omega arith) in (counted .0, counted .1)
+
+-- a stretch is of that size, or what is left where that is less
+part-cut : (d : List ℕ) (whole size : ℕ) → size ≡ min (length d) whole → (take whole d ≡ take size d) × (drop whole d ≡ drop size d)
+part-cut d whole size e =
+    elim (decLe whole (length d)) [
       | yes l ↦
-          let whole : size ≡ recordBytes = omega arith in
-          (ap (λ (n : ℕ). take n d) (sym whole), ap (λ (n : ℕ). drop n d) (sym whole))
+          let same : size ≡ whole = omega arith in
+          (ap (λ (n : ℕ). take n d) (sym same), ap (λ (n : ℕ). drop n d) (sym same))
       | no l ↦ (
-        take-all recordBytes d (omega arith) ∙ sym (take-all size d (omega arith)),
-        drop-of-length-le d {i = recordBytes} (omega arith) ∙ sym (drop-of-length-le d {i = size} (omega arith)),
+        take-all whole d (omega arith) ∙ sym (take-all size d (omega arith)),
+        drop-of-length-le d {i = whole} (omega arith) ∙ sym (drop-of-length-le d {i = size} (omega arith)),
       )
     ]
 
@@ -89,17 +96,39 @@ abbrev pub part : List ℕ → ℕ → ℕ → List ℕ
 part bytes from size = take (from + size - from) (drop from bytes)
 
 -- the stretch at an index, and then those of what is left after it
+pub next-cut :
+    (whole : ℕ) → 1 ≤ whole → (input : List ℕ) (from size : ℕ) → from < length input → size ≡ min (length input - from) whole
+    → cut whole (drop from input) ≡ part input from size ∷ cut whole (drop (from + size) input)
+next-cut whole some input from size l e =
+    let left : length (drop from input) ≡ length input - from = length-drop from input in
+    let same : size ≡ min (length (drop from input)) whole = omega arith in
+    let long : size ≡ from + size - from = omega arith in
+    let parts = part-cut (drop from input) whole size same in
+    cut-more whole some (drop from input) (omega arith)
+    ∙ ap (λ (x : List ℕ). x ∷ cut whole (drop whole (drop from input))) (parts .0 ∙ ap (λ (n : ℕ). take n (drop from input)) long)
+    ∙ ap (λ (x : List ℕ). part input from size ∷ cut whole x) (parts .1 ∙ drop-drop size from input)
+
+-- ---- those of 96 bytes
+
+pub stretches-none : stretches [] ≡ []
+unfolding stretches
+stretches-none = cut-none recordBytes (omega arith)
+
+-- whole records, and then the rest
+pub stretches-append :
+    (k : ℕ) (xs ys : List ℕ) → length xs ≡ recordBytes * k → stretches (xs ++ ys) ≡ stretches xs ++ stretches ys
+unfolding stretches
+stretches-append k xs ys h = cut-append recordBytes (omega arith) k xs ys (omega (arith, h))
+
+pub stretches-count : (bytes : List ℕ) → length (stretches bytes) ≡ (length bytes + 95) / recordBytes
+unfolding stretches
+stretches-count bytes = let counted = cut-count recordBytes (omega arith) bytes in omega (arith, counted .0, counted .1)
+
 pub next-stretch :
     (input : List ℕ) (from size : ℕ) → from < length input → size ≡ min (length input - from) recordBytes
     → stretches (drop from input) ≡ part input from size ∷ stretches (drop (from + size) input)
-next-stretch input from size l e =
-    let left : length (drop from input) ≡ length input - from = length-drop from input in
-    let same : size ≡ min (length (drop from input)) recordBytes = omega arith in
-    let whole : size ≡ from + size - from = omega arith in
-    let parts = cut (drop from input) size same in
-    stretches-more (drop from input) (omega arith)
-    ∙ ap (λ (x : List ℕ). x ∷ stretches (drop recordBytes (drop from input))) (parts .0 ∙ ap (λ (n : ℕ). take n (drop from input)) whole)
-    ∙ ap (λ (x : List ℕ). part input from size ∷ stretches x) (parts .1 ∙ drop-drop size from input)
+unfolding stretches
+next-stretch input from size l e = next-cut recordBytes (omega arith) input from size l e
 
 -- ---- one record
 

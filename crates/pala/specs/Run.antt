@@ -14,15 +14,20 @@ use Rattle.pala.specs.Record.{recordBytes}
 use Rattle.pala.specs.Lists.{finalList}
 use Rattle.pala.specs.Step.{step, start}
 
--- "Each 96-byte stretch" of the bytes, the last as long as what is left; there are no more of them than bytes
-unfoldable pub stretchesIn : ℕ → List ℕ → List (List ℕ)
-stretchesIn zero bytes = []
-stretchesIn (suc k) [] = []
-stretchesIn (suc k) (b ∷ bytes) = take recordBytes (b ∷ bytes) ∷ stretchesIn k (drop recordBytes (b ∷ bytes))
+-- bytes in stretches of one size, the last as long as what is left; there are no more of them than bytes
+unfoldable pub cutIn : ℕ → ℕ → List ℕ → List (List ℕ)
+cutIn size zero bytes = []
+cutIn size (suc k) [] = []
+cutIn size (suc k) (b ∷ bytes) = take size (b ∷ bytes) ∷ cutIn size k (drop size (b ∷ bytes))
 
+unfoldable pub cut : ℕ → List ℕ → List (List ℕ)
+unfolding cutIn
+cut size bytes = cutIn size (length bytes) bytes
+
+-- "Each 96-byte stretch"
 unfoldable pub stretches : List ℕ → List (List ℕ)
-unfolding stretchesIn
-stretches bytes = stretchesIn (length bytes) bytes
+unfolding cut
+stretches bytes = cut recordBytes bytes
 
 -- an out buffer to lend
 unfoldable pub lent : List ℕ

@@ -1,0 +1,1 @@
+-- What is proved of a hall: its text never says no with fewer than a third faulty, and yes means what it says.
