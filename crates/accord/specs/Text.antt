@@ -19,10 +19,15 @@ yesWord = 121 ∷ 101 ∷ 115 ∷ []
 abbrev pub noWord : List ℕ
 noWord = 110 ∷ 111 ∷ []
 
--- a line: a record's number, the answer, yes or no
+-- a line of two numbers and a word
+unfoldable pub worded : ℕ → ℕ → List ℕ → List ℕ
+unfolding digits
+worded k answer word = digits k ++ (space ∷ (digits answer ++ (space ∷ (word ++ (newLine ∷ [])))))
+
+-- a record's line: its number, the answer, yes or no
 unfoldable pub hallLine : ℕ → Verdict → Bool → List ℕ
-unfolding digits verdictNumber pick
-hallLine k v word = digits k ++ (space ∷ (digits (verdictNumber v) ++ (space ∷ (pick word yesWord noWord ++ (newLine ∷ [])))))
+unfolding worded verdictNumber pick
+hallLine k v word = worded k (verdictNumber v) (pick word yesWord noWord)
 
 -- "one byte before each record names the receiver": 97 bytes together
 abbrev pub sentBytes : ℕ

@@ -5,7 +5,7 @@ use table::Answer;
 use table::State;
 
 // "up to eight gateways"
-pub const GATEWAYS: u32 = 8;
+pub const MOST_GATEWAYS: u32 = 8;
 
 // The gateways on the desk: the state of each number, "the set of honest nodes" and n.
 pub struct Hall {

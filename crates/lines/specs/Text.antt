@@ -2,10 +2,11 @@
 use mathlib.Core.Path.{_≡_}
 use Prim.Native.Nat.{ℕ, _+_, _≤_}
 use mathlib.Core.List.{List, _++_}
-use lib.Dec.{ltb}
+use lib.Dec.{ltb, leb}
 use lib.ListN.{length, take, drop}
 use Rattle.table.specs.Scan.{pick}
 use Rattle.pala.specs.Lines.{spaced}
+use Rattle.accord.specs.Text.{worded}
 
 -- the buffer with some bytes written from an index on, the rest of it unchanged
 unfoldable pub written : List ℕ → ℕ → List ℕ → List ℕ
@@ -39,4 +40,17 @@ lined line text =
     record {
       length = pick (ltb (length text) endMost) 0 (length line);
       text = pick (ltb (length text) endMost) text (written text 0 line);
+    }
+
+-- the most that two numbers take of it, with a space after each and the new line
+abbrev pub numbersMost : ℕ
+numbersMost = 43
+
+-- the line from an index on, and the index past it; nothing where the longest of that word would not fit
+unfoldable pub wordedAt : ℕ → ℕ → List ℕ → ℕ → List ℕ → Lined
+unfolding pick worded written
+wordedAt k answer word from text =
+    record {
+      length = pick (leb (from + numbersMost + length word) (length text)) (from + length (worded k answer word)) from;
+      text = pick (leb (from + numbersMost + length word) (length text)) (written text from (worded k answer word)) text;
     }

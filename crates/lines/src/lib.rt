@@ -4,3 +4,4 @@
 pub mod ends;
 pub mod pieces;
 mod text;
+pub mod words;
