@@ -70,7 +70,7 @@ unfoldable pub node : ℕ → ℕ → ℕ → List Block → State
 unfolding table blank
 node i local held blocks = stateOf 4 i local held 0 [] (blank ∷ blocks) false
 
--- a well-shaped hall: "no number at or above n is honest and every honest gateway's state is well shaped"
+-- a well-shaped hall: no number at or above n is honest and every gateway's state, a faulty one's too, is well shaped
 shapes-told :
     map hallShaped
     (freshHall (4 ∷ 7 ∷ [])
@@ -79,9 +79,10 @@ shapes-told :
     ∷ desk 1 (true ∷ true ∷ []) (start 2 0 .state ∷ start 2 1 .state ∷ [])
     ∷ desk 2 (true ∷ true ∷ []) (start 2 0 .state ∷ allZero ∷ [])
     ∷ desk 2 (true ∷ false ∷ []) (start 2 0 .state ∷ allZero ∷ [])
+    ∷ desk 1 (true ∷ []) (start 2 0 .state ∷ allZero ∷ [])
     ∷ desk 9 [] []
     ∷ [])
-    ≡ true ∷ true ∷ false ∷ false ∷ false ∷ true ∷ false ∷ []
+    ≡ true ∷ true ∷ false ∷ false ∷ false ∷ false ∷ true ∷ false ∷ []
 unfolding hallShaped freshHall noHall desk start
 shapes-told = refl
 

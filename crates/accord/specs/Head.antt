@@ -70,10 +70,11 @@ gateway h i = getD (h .states) i allZero
 unfoldable pub honestIn : Hall → ℕ → Bool
 honestIn h i = getD (h .honest) i false
 
--- a hall is well shaped when n is 1 to 8, no number at or above n is honest and every honest gateway's state is well shaped
+-- a hall is well shaped when n is 1 to 8, no number at or above n is honest and every gateway's state is well shaped
 unfoldable pub hallShaped : Hall → Bool
 unfolding allBelow honestIn wellShaped gateway
 hallShaped h =
     leb 1 (h .n)
     && leb (h .n) mostGateways
-    && allBelow mostGateways (λ i. not (honestIn h i) || ltb i (h .n) && wellShaped (gateway h i))
+    && allBelow mostGateways (λ i. ltb i (h .n) || not (honestIn h i))
+    && allBelow (h .n) (λ i. wellShaped (gateway h i))

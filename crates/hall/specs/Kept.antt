@@ -1,5 +1,5 @@
 -- What a loop keeps of a hall.
-use Prim.Native.Nat.{ℕ, suc, _<_}
+use Prim.Native.Nat.{ℕ, suc, _≤_, _<_}
 use mathlib.Core.Path.{_≡_}
 use mathlib.Core.Bool.{true}
 use lib.ListN.{length}
@@ -8,9 +8,12 @@ use Rattle.pala.specs.Shape.{wellShaped}
 use Rattle.accord.specs.declared.Hall.{Hall}
 use Rattle.accord.specs.Head.{mostGateways, gateway, honestIn}
 
--- eight seats, and every honest gateway's state well shaped, with its 65 rows
+-- eight seats, the honest numbers below n, and every gateway's state well shaped, with its 65 rows
 pub record Kept (h : Hall) : Type 0 where
   pub seats : length (h .states) ≡ mostGateways
   pub flags : length (h .honest) ≡ mostGateways
-  pub places : (i : ℕ) → i < mostGateways → honestIn h i ≡ true → length (gateway h i .blocks) ≡ suc capacity
-  pub shaped : (i : ℕ) → i < mostGateways → honestIn h i ≡ true → wellShaped (gateway h i) ≡ true
+  pub some : 1 ≤ h .n
+  pub most : h .n ≤ mostGateways
+  pub low : (i : ℕ) → honestIn h i ≡ true → i < h .n
+  pub places : (i : ℕ) → i < h .n → length (gateway h i .blocks) ≡ suc capacity
+  pub shaped : (i : ℕ) → i < h .n → wellShaped (gateway h i) ≡ true

@@ -1,6 +1,7 @@
 // "A two-byte head gives n (1 to 8) and the set of honest nodes, lowest bit for node 0".
 
 use crate::GATEWAYS;
+use crate::seats::all_below;
 use accord::Hall;
 use accord::MOST_GATEWAYS;
 use node::start;
@@ -9,13 +10,10 @@ use table::State;
 use table::states::all_zero;
 ghost use Prim.Native.Nat.{_/_, _%_, _^_, _<_};
 ghost use mathlib.Core.Path.{_≡_};
-ghost use mathlib.Core.Bool.{_||_, not, false};
-ghost use mathlib.Core.List.{_∷_, map, []};
-ghost use lib.Dec.{eqb, ltb};
-ghost use lib.ListN.{getD};
-ghost use Rattle.table.specs.Scan.{allBelow};
+ghost use mathlib.Core.List.{map};
+ghost use lib.Dec.{eqb};
 ghost use Rattle.pala.specs.Step.{start};
-ghost use Rattle.accord.specs.Head.{Opened, gateways, mostGateways, noHall, opened};
+ghost use Rattle.accord.specs.Head.{Opened, gateways, noHall, opened};
 
 // How many bytes the head has.
 const HEAD_BYTES: usize = 2;
@@ -48,22 +46,6 @@ fn honest_of(set: u8) -> [bool; 8]
         in_set(set, 64),
         in_set(set, 128),
     ]
-}
-
-// Is no number at or above n honest.
-fn all_below(honest: [bool; 8], n: u32) -> bool
-    ensures { λ r. ⌜ r ≡ allBelow mostGateways (λ i. ltb i n || not (getD honest i false)) ⌝ }
-{
-    let mut i: u32 = 0;
-    while i < MOST_GATEWAYS {
-        if n <= i {
-            if honest[i as usize] {
-                return false;
-            }
-        }
-        i += 1;
-    }
-    true
 }
 
 // A gateway started fresh.

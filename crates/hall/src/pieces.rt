@@ -117,6 +117,7 @@ fn play_records(
     fill(book, h);
     let mut counts = list_all(lists, h);
     let honest = h.honest;
+    let n = h.n;
     let mut word = agree(lists, counts, honest);
     let mut hall = h;
     let mut k = before;
@@ -126,7 +127,7 @@ fn play_records(
         let size = stretch(input.len() - from);
         k += 1;
         let to = wide(input[from]);
-        let i = seat(to);
+        let i = seat(to, n);
         let d = decide_shaped(hall.states[i], &input[from + 1..from + size]);
         let mut told = judge(book, honest, to, d);
         if d.fields.kind == PROPOSE_NOW {
