@@ -227,7 +227,7 @@ says-no = refl
 
 -- ---- the lines
 
--- "1 0 yes", "12 22 no", "3 21 no", each with its line end
+-- "1 0 yes", "12 22 no", "3 21 yes", each with its line end
 lines-told :
     (hallLine 1 (Verdict.Answered Answer.Taken) true ≡ 49 ∷ 32 ∷ 48 ∷ 32 ∷ 121 ∷ 101 ∷ 115 ∷ 10 ∷ [])
     × (hallLine 12 Verdict.Clash false ≡ 49 ∷ 50 ∷ 32 ∷ 50 ∷ 50 ∷ 32 ∷ 110 ∷ 111 ∷ 10 ∷ [])

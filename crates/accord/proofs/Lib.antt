@@ -18,3 +18,5 @@ pub mod Agrees
 pub mod NeverNo
 -- a recording in pieces
 pub mod Pieces
+-- with a third faulty it can say no
+pub mod Sharp
