@@ -37,6 +37,12 @@ pub enum Refusal {
     Full = 14,
     /// The start's counts are out of range.
     Start = 15,
+    /// In a hall: the receiver isn't an honest node.
+    Receiver = 20,
+    /// In a hall: an honest node never cast this vote.
+    NeverCast = 21,
+    /// In a hall: the name stands for another block.
+    Renamed = 22,
 }
 
 impl Refusal {

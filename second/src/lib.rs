@@ -4,12 +4,15 @@
 //! The words and their order are those of the scope: counts and names in
 //! [`state`], the record in [`record`], the answer numbers in [`answer`], the
 //! rules in [`rules`], what a record does in [`node`], reading out in
-//! [`lists`], [`mod@run`] and [`mod@replay`]. The comparing itself is in [`trials`].
+//! [`lists`], [`mod@run`] and [`mod@replay`]; [`mod@hall`] plays several gateways as
+//! one. The comparing itself is in [`trials`].
 
 #![forbid(unsafe_code)]
 #![deny(missing_docs)]
 
 pub mod answer;
+pub mod hall;
+mod input;
 pub mod lists;
 pub mod node;
 pub mod record;
@@ -20,7 +23,8 @@ pub mod state;
 pub mod trials;
 
 pub use answer::{Refusal, TAKEN};
-pub use lists::{final_length, final_list, relation, relation_code, tail, Relation};
+pub use hall::{hall, Hall};
+pub use lists::{final_length, final_list, final_names, relation, relation_code, tail, Relation};
 pub use node::{step, step_shaped};
 pub use replay::replay;
 pub use run::run;

@@ -3,7 +3,7 @@
 use std::cmp::Ordering;
 
 use crate::answer::Refusal;
-use crate::state::{well_shaped, Place, State, GENESIS, NAME_LEN};
+use crate::state::{well_shaped, Name, Place, State, GENESIS, NAME_LEN};
 
 /// What `relation x 2^60 + index` multiplies the relation by.
 const RELATION_UNIT: u64 = 1 << 60;
@@ -48,13 +48,19 @@ pub fn final_list(state: &State, buf: &mut [u8]) -> Result<usize, Refusal> {
     if !well_shaped(state) {
         return Err(Refusal::State);
     }
-    let count = final_length(state);
-    let room = buf.get_mut(..count * NAME_LEN).ok_or(Refusal::Length)?;
-    let slots = room.chunks_exact_mut(NAME_LEN).rev();
-    for (slot, place) in slots.zip(final_blocks(state)) {
-        slot.copy_from_slice(&state.row(place).name);
-    }
-    Ok(count)
+    let names = final_names(state);
+    let bytes = names.as_flattened();
+    let room = buf.get_mut(..bytes.len()).ok_or(Refusal::Length)?;
+    room.copy_from_slice(bytes);
+    Ok(names.len())
+}
+
+/// The names of the final list, first name first, of a well-shaped state.
+pub fn final_names(state: &State) -> Vec<Name> {
+    let last_first = final_blocks(state).map(|place| state.row(place).name);
+    let mut names: Vec<Name> = last_first.collect();
+    names.reverse();
+    names
 }
 
 /// The relation, and for a fork the index of the first name that differs.

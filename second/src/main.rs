@@ -9,27 +9,35 @@ use std::str::FromStr;
 
 use second::run::{LIST_LEN, REFUSAL_UNIT};
 use second::state::NAME_LEN;
-use second::trials::bench::bench;
+use second::trials::bench::{bench, bench_hall};
 use second::trials::cases::write_cases;
 use second::trials::compare::compare_replay;
+use second::trials::compare_hall::compare_hall;
 use second::trials::compare_states::compare_states;
+use second::trials::hall_examples::example;
+use second::trials::hall_load::{hall_load, HALL_NODES};
 use second::trials::load::{load, write_long, LOAD_NODES};
 use second::trials::script::{print_answers, write_script};
 use second::trials::wire::step_cases;
-use second::{relation, replay, run, tail};
+use second::{hall, relation, replay, run, tail};
 
 const USAGE: &str = "usage: second replay < RECORDING
+       second hall < RECORDING
        second run N OWN RECORDS_FILE
        second relation FILE_A FILE_B
        second compare-replay PROGRAM COUNT SEED
+       second compare-hall PROGRAM COUNT SEED
        second script COUNT SEED > SCRIPT
        second answers < SCRIPT
        second compare-states PROGRAM COUNT SEED
        second cases COUNT SEED > CASES
        second step-cases < CASES > REPLIES
        second bench PROGRAM
+       second bench-hall PROGRAM
        second recording 4|7|32 > RECORDING
-       second long BYTES > RECORDING";
+       second hall-recording 4|8 > RECORDING
+       second long BYTES > RECORDING
+       second hall-example session|sharp|liar|late > RECORDING";
 /// The exit code of a command that isn't one of these.
 const USAGE_CODE: u8 = 2;
 /// Bytes gathered before the output is written to.
@@ -76,32 +84,29 @@ fn command(words: &[OsString], output: &mut impl Write) -> Result<(), Failure> {
     let (command, words) = words.split_first().ok_or(Failure::Usage)?;
     match (command.to_str().unwrap_or_default(), words) {
         ("replay", []) => replay(io::stdin().lock(), output)?,
+        ("hall", []) => hall(io::stdin().lock(), output)?,
         ("run", [n, own, records]) => print_run(number(n)?, number(own)?, records, output)?,
         ("relation", [a, b]) => print_relation(a, b, output)?,
-        ("compare-replay", [program, count, seed]) => {
-            let (count, seed) = (number(count)?, number(seed)?);
-            same(compare_replay(program, count, seed, output)?)?;
-        }
+        ("compare-replay", words) => compare(compare_replay, words, output)?,
+        ("compare-hall", words) => compare(compare_hall, words, output)?,
         ("script", [count, seed]) => write_script(number(count)?, number(seed)?, output)?,
         ("answers", []) => {
             let mut script = Vec::new();
             io::stdin().lock().read_to_end(&mut script)?;
             print_answers(&script, output)?;
         }
-        ("compare-states", [program, count, seed]) => {
-            let (count, seed) = (number(count)?, number(seed)?);
-            same(compare_states(program, count, seed, output)?)?;
-        }
+        ("compare-states", words) => compare(compare_states, words, output)?,
         ("cases", [count, seed]) => write_cases(number(count)?, number(seed)?, output)?,
         ("step-cases", []) => step_cases(io::stdin().lock(), output)?,
         ("bench", [program]) => same(bench(program, output)?)?,
-        ("recording", [n]) => {
-            let n = number(n)?;
-            let known = LOAD_NODES.contains(&n);
-            let recording = known.then(|| load(n)).ok_or(Failure::Usage)?;
-            output.write_all(&recording)?;
-        }
+        ("bench-hall", [program]) => same(bench_hall(program, output)?)?,
+        ("recording", [n]) => write_load(n, &LOAD_NODES, load, output)?,
+        ("hall-recording", [n]) => write_load(n, &HALL_NODES, hall_load, output)?,
         ("long", [bytes]) => write_long(number(bytes)?, output)?,
+        ("hall-example", [name]) => {
+            let recording = name.to_str().and_then(example);
+            output.write_all(&recording.ok_or(Failure::Usage)?)?;
+        }
         _ => return Err(Failure::Usage),
     }
     Ok(())
@@ -118,6 +123,31 @@ fn same(same: bool) -> Result<(), Failure> {
     } else {
         Err(Failure::Different)
     }
+}
+
+/// Compares a program on so many inputs of a seed.
+fn compare<W: Write>(
+    compare: fn(&OsStr, u64, u64, &mut W) -> io::Result<bool>,
+    words: &[OsString],
+    output: &mut W,
+) -> Result<(), Failure> {
+    let [program, count, seed] = words else {
+        return Err(Failure::Usage);
+    };
+    same(compare(program, number(count)?, number(seed)?, output)?)
+}
+
+/// The load for one of these node counts.
+fn write_load(
+    n: &OsStr,
+    counts: &[u32],
+    load: fn(u32) -> Vec<u8>,
+    output: &mut impl Write,
+) -> Result<(), Failure> {
+    let n = number(n)?;
+    let known = counts.contains(&n);
+    let recording = known.then(|| load(n)).ok_or(Failure::Usage)?;
+    Ok(output.write_all(&recording)?)
 }
 
 /// The run's answer, then the final names, one to a line.

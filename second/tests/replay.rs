@@ -1,55 +1,18 @@
 //! The program `replay`: its lines, its ends, its reading.
 
 mod common;
+mod streams;
 
-use std::io::{self, ErrorKind, Read, Write};
+use std::io::{ErrorKind, Read};
 
 use common::*;
 use second::replay;
+use streams::{Broken, Closed, Trickle};
 
 fn lines(input: &[u8]) -> String {
     let mut output = Vec::new();
     replay(input, &mut output).unwrap();
     String::from_utf8(output).unwrap()
-}
-
-/// Hands out one byte at a time and is interrupted between any two.
-struct Trickle<'a> {
-    bytes: &'a [u8],
-    interrupted: bool,
-}
-
-impl Read for Trickle<'_> {
-    fn read(&mut self, buffer: &mut [u8]) -> io::Result<usize> {
-        self.interrupted = !self.interrupted;
-        if self.interrupted {
-            return Err(ErrorKind::Interrupted.into());
-        }
-        let length = buffer.len().min(1);
-        self.bytes.read(&mut buffer[..length])
-    }
-}
-
-/// An input that breaks off with an error.
-struct Broken;
-
-impl Read for Broken {
-    fn read(&mut self, _: &mut [u8]) -> io::Result<usize> {
-        Err(ErrorKind::ConnectionReset.into())
-    }
-}
-
-/// An output that nobody reads any more.
-struct Closed;
-
-impl Write for Closed {
-    fn write(&mut self, _: &[u8]) -> io::Result<usize> {
-        Err(ErrorKind::BrokenPipe.into())
-    }
-
-    fn flush(&mut self) -> io::Result<()> {
-        Err(ErrorKind::BrokenPipe.into())
-    }
 }
 
 #[test]
@@ -139,12 +102,8 @@ fn recordings_longer_than_a_piece_keep_their_count() {
 fn how_the_bytes_arrive_makes_no_difference() {
     let mut input = recording(4, 0, &session());
     input.push(7);
-    let trickle = Trickle {
-        bytes: &input,
-        interrupted: false,
-    };
     let mut output = Vec::new();
-    replay(trickle, &mut output).unwrap();
+    replay(Trickle::of(&input), &mut output).unwrap();
     assert_eq!(String::from_utf8(output).unwrap(), lines(&input));
 }
 

@@ -30,12 +30,12 @@ pub fn compare_replay(
     for index in 0..count {
         let input = recording(seed, index, &mut coverage);
         let label = format!("recording {index} of seed {seed}");
-        if !plays_the_same(program, &input, &label, output)? {
+        if !plays_the_same(program, &input, &own_text(&input)?, &label, output)? {
             return Ok(false);
         }
     }
     let long = load(LONG_NODES);
-    if !plays_the_same(program, &long, "long recording", output)? {
+    if !plays_the_same(program, &long, &own_text(&long)?, "long recording", output)? {
         return Ok(false);
     }
     let missing = coverage.missing();
@@ -47,13 +47,13 @@ pub fn compare_replay(
 }
 
 /// One recording; a difference is shown, and the recording kept.
-fn plays_the_same(
+pub fn plays_the_same(
     program: &OsStr,
     input: &[u8],
+    expected: &[u8],
     label: &str,
     output: &mut impl Write,
 ) -> io::Result<bool> {
-    let expected = own_text(input)?;
     let played = play(Command::new(program), input)?;
     let same = played.status.success() && played.stdout == expected;
     if !same {
@@ -62,7 +62,7 @@ fn plays_the_same(
         let path = env::temp_dir().join(name);
         fs::write(&path, input)?;
         writeln!(output, "kept as {}", path.display())?;
-        show_difference(&expected, &played.stdout, output)?;
+        show_difference(expected, &played.stdout, output)?;
     }
     Ok(same)
 }

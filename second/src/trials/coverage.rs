@@ -49,11 +49,29 @@ const HANDED_IN: [(u8, &[u8]); 5] = [
     (Refusal::Order as u8, &[PROPOSE]),
 ];
 
-/// How often each answer came for each kind.
-#[derive(Clone, Debug, Default, PartialEq, Eq)]
-pub struct Answers([[u64; COLUMNS]; ANSWERS]);
+/// What more there is to meet in a hall. What no start leads to isn't met there
+/// either: answer 1, as each state comes from a fresh one by steps alone, and row
+/// 10 for kind 4, as the local epoch is then above the freshest block's.
+const IN_A_HALL: [(u8, &[u8]); 5] = [
+    (Refusal::Length as u8, &[NO_KIND]),
+    (Refusal::Receiver as u8, EACH_KIND),
+    (Refusal::Receiver as u8, &[NO_KIND]),
+    (Refusal::NeverCast as u8, &[VOTE]),
+    (Refusal::Renamed as u8, &[PROPOSAL, PROPOSE]),
+];
 
-impl Answers {
+/// How often each answer came for each kind.
+#[derive(Clone, Debug, PartialEq, Eq)]
+pub struct Answers<const COUNT: usize = ANSWERS>([[u64; COLUMNS]; COUNT]);
+
+impl<const COUNT: usize> Default for Answers<COUNT> {
+    /// Nothing met yet.
+    fn default() -> Answers<COUNT> {
+        Answers([[0; COLUMNS]; COUNT])
+    }
+}
+
+impl<const COUNT: usize> Answers<COUNT> {
     /// Counts a record's answer.
     pub fn count(&mut self, record: &[u8], answer: u8) {
         let kind = record.first().and_then(|byte| Kind::read(*byte));
@@ -183,6 +201,11 @@ pub fn named_pairs() -> impl Iterator<Item = (u8, u8)> {
 /// well, and the rows before row 4 for a byte that is no kind.
 pub fn handed_pairs() -> impl Iterator<Item = (u8, u8)> {
     named_pairs().chain(pairs_of(&HANDED_IN))
+}
+
+/// The same for a hall, where there are three more answers.
+pub fn hall_pairs() -> impl Iterator<Item = (u8, u8)> {
+    named_pairs().chain(pairs_of(&IN_A_HALL))
 }
 
 fn pairs_of(named: &'static [(u8, &[u8])]) -> impl Iterator<Item = (u8, u8)> {

@@ -19,7 +19,7 @@ const ALL_HONEST: usize = 12;
 /// A hall jumps to a border epoch once in so many times.
 const JUMP: usize = 4;
 /// Epochs at the borders of their bytes and of their range.
-const BORDER_EPOCHS: [u32; 9] = [
+pub const BORDER_EPOCHS: [u32; 9] = [
     (1 << 8) - 2,
     (1 << 16) - 2,
     (1 << 24) - 2,
@@ -47,7 +47,7 @@ const NO_BYTE: usize = 6;
 const ONE_BYTE: usize = 6;
 
 /// Blocks follow each other and the final list grows.
-const CALM: Habits = Habits {
+pub const CALM: Habits = Habits {
     deliver: 60,
     host: 1,
     minute: 1,
@@ -118,7 +118,8 @@ const STRANGE: Habits = Habits {
 };
 
 /// Each as often as its number says.
-const HABITS: [(Habits, usize); 5] = [(CALM, 4), (ROUGH, 4), (FLOOD, 3), (FORKED, 3), (STRANGE, 2)];
+pub const HABITS: [(Habits, usize); 5] =
+    [(CALM, 4), (ROUGH, 4), (FLOOD, 3), (FORKED, 3), (STRANGE, 2)];
 
 /// The recording of this index; what it meets is counted.
 pub fn recording(seed: u64, index: u64, coverage: &mut Coverage) -> Vec<u8> {

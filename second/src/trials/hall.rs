@@ -1,31 +1,32 @@
 //! A simulated hall: honest gateways, faulty ones, and records on their way.
 
 mod faults;
+mod lies;
+mod single;
+mod whole;
 
 use std::collections::VecDeque;
 
 use crate::answer::TAKEN;
-use crate::node::step_shaped;
 use crate::record::{Kind, Record, RECORD_LEN};
 use crate::rules::{first_votable, freshest, proposer, Firm};
 use crate::state::{Epoch, Name, NodeNo, State, NAME_LEN};
 
-use super::coverage::Coverage;
 use super::random::Random;
 use super::records::{self, RecordBytes};
 
-/// The gateway that the recording is taken at, among the honest ones.
-const RECEIVER: usize = 0;
+pub use single::Single;
+pub use whole::Whole;
+
 /// Out of so many blocks that a faulty gateway hears of, it votes for some.
 pub const ECHO_PARTS: usize = 8;
 /// Happenings for each record wanted, after which a quiet hall is left alone.
 const PATIENCE: usize = 30;
 /// With so many records on their way, one arrives before anything else happens.
 const BUSY: usize = 40;
-/// Records that are still heard once the state is torn.
-const AFTERMATH: usize = 16;
 /// In a quiet hall so many of the newest records are sent again.
 const SENT_AGAIN: usize = 8;
+
 /// What goes on in a hall. The first six say how often each thing happens.
 #[derive(Clone, Copy, Debug)]
 pub struct Habits {
@@ -49,7 +50,8 @@ pub struct Habits {
     pub repeated: usize,
     /// So many of [`ECHO_PARTS`] blocks does a faulty gateway vote for.
     pub echo: usize,
-    /// At most so many gateways are honest, but for a hall where all are.
+    /// At most so many gateways are honest, but for a hall where all are; not asked
+    /// for where a whole hall is recorded.
     pub honest: usize,
 }
 
@@ -93,46 +95,57 @@ struct Letter {
     record: RecordBytes,
 }
 
-/// The hall, and what its receiver heard so far.
-pub struct Hall<'a> {
+/// Where the records of a hall are played and kept.
+pub trait Desk {
+    /// How many gateways are honest.
+    fn honest(&self) -> usize;
+    /// The state of an honest gateway, by its turn among them.
+    fn gateway(&self, who: usize) -> &State;
+    /// Plays a record to an honest gateway.
+    fn play(&mut self, to: usize, record: &RecordBytes, sent: &mut RecordBytes) -> u8;
+    /// The whole records that the recording has so far.
+    fn kept(&self) -> &[RecordBytes];
+    /// Whose view the faulty gateways go by once this one heard a record.
+    fn watched_after(&self, to: usize) -> usize;
+}
+
+/// The hall, at a desk that keeps what is heard there.
+pub struct Hall<'a, D> {
     n: u32,
     habits: Habits,
-    gateways: Vec<State>,
+    desk: D,
     faulty: Vec<NodeNo>,
     letters: VecDeque<Letter>,
     sent: Vec<Record>,
     names: Names,
     names_made: u32,
     random: &'a mut Random,
-    coverage: &'a mut Coverage,
-    heard: Vec<RecordBytes>,
+    watched: usize,
+    sides: usize,
 }
 
-impl<'a> Hall<'a> {
-    /// A hall of n nodes, so many of them honest, at least the receiver.
-    pub fn new(
-        (n, own): (u32, u32),
-        honest: usize,
+impl<'a, D: Desk> Hall<'a, D> {
+    /// A hall of n nodes, of which these are faulty.
+    fn at_desk(
+        desk: D,
+        n: u32,
+        faulty: Vec<NodeNo>,
         habits: Habits,
         random: &'a mut Random,
-        coverage: &'a mut Coverage,
-    ) -> Hall<'a> {
-        let after_own = (0..n).map(|steps| (own + steps) % n);
-        let numbers: Vec<u32> = after_own.collect();
-        let (honest, faulty) = numbers.split_at(honest.clamp(1, n as usize));
+    ) -> Hall<'a, D> {
         let names = random.one_of(&NAMES);
         Hall {
             n,
             habits,
-            gateways: honest.iter().map(|own| State::start(n, *own).1).collect(),
-            faulty: faulty.iter().copied().map(NodeNo).collect(),
+            desk,
+            faulty,
             letters: VecDeque::new(),
             sent: Vec::new(),
             names,
             names_made: 0,
             random,
-            coverage,
-            heard: Vec::new(),
+            watched: 0,
+            sides: 1,
         }
     }
 
@@ -143,36 +156,9 @@ impl<'a> Hall<'a> {
         }
     }
 
-    /// Lets things happen until the receiver heard so many records, or fewer in
-    /// a hall that falls quiet or tears it.
-    pub fn play(&mut self, records: usize) {
-        for _ in 0..records * PATIENCE {
-            if self.heard.len() >= records {
-                return;
-            }
-            if self.receiver().torn {
-                return (0..AFTERMATH).for_each(|_| self.strange());
-            }
-            self.happen();
-        }
-    }
-
-    /// The receiver's state, and all it heard, a short record of so many bytes last.
-    pub fn end(mut self, last_length: usize) -> (State, Vec<u8>) {
-        let record = records::bytes(&self.strange_record());
-        let mut heard = self.heard.concat();
-        let mut end = self.gateways.swap_remove(RECEIVER);
-        if last_length > 0 {
-            let short = &record[..last_length];
-            let answer = step_shaped(&mut end, short, &mut [0; RECORD_LEN]);
-            self.coverage.count_record(short, answer);
-            heard.extend(short);
-        }
-        (end, heard)
-    }
-
+    /// The gateway whose view the faulty ones go by.
     fn receiver(&self) -> &State {
-        &self.gateways[RECEIVER]
+        self.desk.gateway(self.watched)
     }
 
     fn happen(&mut self) {
@@ -188,12 +174,12 @@ impl<'a> Hall<'a> {
             (Happening::Fork, habits.fork),
             (Happening::Strange, habits.strange),
         ]);
-        let anyone = self.random.below(self.gateways.len());
+        let anyone = self.random.below(self.desk.honest());
         match happening {
             Happening::Deliver => self.deliver(),
             Happening::Host => self.call_host(anyone, true),
             Happening::Minute => {
-                let minute = records::minute(self.gateways[anyone].own);
+                let minute = records::minute(self.desk.gateway(anyone).own);
                 self.hand_over(anyone, &records::bytes(&minute));
             }
             Happening::Fault => self.fault(),
@@ -221,14 +207,11 @@ impl<'a> Hall<'a> {
     /// Steps a gateway; what it sends goes on its way, and its host reacts.
     fn hand_over(&mut self, to: usize, record: &RecordBytes) {
         let mut sent = [0; RECORD_LEN];
-        let gateway = &mut self.gateways[to];
-        let before = (gateway.local, gateway.count);
-        let answer = step_shaped(gateway, record, &mut sent);
-        let changed = (gateway.local, gateway.count) != before;
-        if to == RECEIVER {
-            self.heard.push(*record);
-            self.coverage.count_record(record, answer);
-        }
+        let progress = |state: &State| (state.local, state.count);
+        let before = progress(self.desk.gateway(to));
+        let answer = self.desk.play(to, record, &mut sent);
+        let changed = progress(self.desk.gateway(to)) != before;
+        self.watched = self.desk.watched_after(to);
         if answer != TAKEN {
             return;
         }
@@ -244,7 +227,7 @@ impl<'a> Hall<'a> {
     /// A host says "propose now" in its turn, and "cast a vote now" where it
     /// sees a block to vote for or acts blindly.
     fn call_host(&mut self, who: usize, blindly: bool) {
-        let gateway = &self.gateways[who];
+        let gateway = self.desk.gateway(who);
         let own = gateway.own;
         let casts = blindly || first_votable(gateway).is_some();
         let in_turn = proposer(self.n, gateway.local) == Some(own);
@@ -263,8 +246,8 @@ impl<'a> Hall<'a> {
             Waking::Propose => self.call_proposer(),
             Waking::Minutes => {
                 self.say_clock(self.receiver().local.next());
-                for to in 0..self.gateways.len() {
-                    self.post(to, &records::minute(self.gateways[to].own));
+                for to in 0..self.desk.honest() {
+                    self.post(to, &records::minute(self.desk.gateway(to).own));
                 }
             }
             Waking::SendAgain => {
@@ -278,7 +261,7 @@ impl<'a> Hall<'a> {
 
     /// Hosts do what is to be done, and so does a faulty proposer in its turn.
     fn call_proposer(&mut self) {
-        for who in 0..self.gateways.len() {
+        for who in 0..self.desk.honest() {
             self.call_host(who, false);
         }
         let local = self.receiver().local;
@@ -295,11 +278,19 @@ impl<'a> Hall<'a> {
         self.letters.push_back(Letter { to, record });
     }
 
-    /// A record goes to every other honest gateway, where it isn't lost; the
-    /// faulty ones hear at once of a block and vote for it as they like.
+    /// The side of a hall that a gateway is on; one side doesn't hear the other.
+    fn side(&self, who: usize) -> usize {
+        who % self.sides
+    }
+
+    /// A record goes to every other honest gateway on the side of the watched one,
+    /// where it isn't lost; the faulty ones hear at once of a block and vote for
+    /// it as they like.
     fn send(&mut self, record: &Record, lost: usize) {
-        for to in 0..self.gateways.len() {
-            if self.gateways[to].own != record.sender && !self.random.once_in(lost) {
+        let side = self.side(self.watched);
+        for to in 0..self.desk.honest() {
+            let other = self.desk.gateway(to).own != record.sender;
+            if other && self.side(to) == side && !self.random.once_in(lost) {
                 self.post(to, record);
             }
         }

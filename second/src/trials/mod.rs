@@ -5,6 +5,10 @@
 //! to another program. [`script`] does the same for the two functions that C
 //! calls. [`load`] makes the recordings that [`mod@bench`] times.
 //!
+//! [`hall_recordings`] takes down all that the honest gateways of a [`hall`] hear;
+//! [`hall_tally`] counts what that met and [`compare_hall`] plays it to another
+//! program, after [`hall_examples`] and [`hall_load`].
+//!
 //! [`cases`] makes states that are handed in and stepped once: [`states`] builds
 //! them, [`breaks`] breaks their shape clause by clause, as [`clauses`] tells them
 //! apart, [`wire`] lays them out, [`tally`] counts what they met and
@@ -15,11 +19,16 @@ pub mod breaks;
 pub mod cases;
 pub mod clauses;
 pub mod compare;
+pub mod compare_hall;
 pub mod compare_states;
 pub mod coverage;
 pub mod damage;
 pub mod generate;
 pub mod hall;
+pub mod hall_examples;
+pub mod hall_load;
+pub mod hall_recordings;
+pub mod hall_tally;
 pub mod load;
 pub mod random;
 pub mod records;

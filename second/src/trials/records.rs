@@ -13,6 +13,11 @@ pub fn bytes(record: &Record) -> RecordBytes {
     bytes
 }
 
+/// A stretch of a hall's recording: the receiver, then its record.
+pub fn stretch(receiver: NodeNo, record: &[u8]) -> Vec<u8> {
+    [&[receiver.0 as u8], record].concat()
+}
+
 /// Kind 1 with a block's fields.
 pub fn proposal(
     epoch: Epoch,

@@ -5,7 +5,7 @@
 
 use second::record::RECORD_LEN;
 use second::state::{Name, Payload, MAX_BLOCKS, NAME_LEN};
-use second::{final_list, step, well_shaped, Block, Epoch, Place, State, Voters, TAKEN};
+use second::{final_list, hall, step, well_shaped, Block, Epoch, Place, State, Voters, TAKEN};
 
 pub const STATE: u8 = 1;
 pub const TORN: u8 = 2;
@@ -22,6 +22,9 @@ pub const REPEAT: u8 = 12;
 pub const NOTHING: u8 = 13;
 pub const FULL: u8 = 14;
 pub const START: u8 = 15;
+pub const RECEIVER: u8 = 20;
+pub const NEVER_CAST: u8 = 21;
+pub const RENAMED: u8 = 22;
 
 pub const ZERO: Name = [0; NAME_LEN];
 pub const A: Name = [0x0A; NAME_LEN];
@@ -124,6 +127,23 @@ pub fn recording(n: u8, own: u8, records: &[Bytes]) -> Vec<u8> {
     let mut bytes = vec![n, own];
     bytes.extend(records.concat());
     bytes
+}
+
+/// A hall's recording: n, the set of honest nodes, then receivers and records.
+pub fn hall_recording(n: u8, honest: u8, told: &[(u8, Bytes)]) -> Vec<u8> {
+    let mut bytes = vec![n, honest];
+    for (to, record) in told {
+        bytes.push(*to);
+        bytes.extend(record);
+    }
+    bytes
+}
+
+/// What the library's `hall` prints.
+pub fn hall_lines(input: &[u8]) -> String {
+    let mut output = Vec::new();
+    hall(input, &mut output).unwrap();
+    String::from_utf8(output).unwrap()
 }
 
 /// A name that no other number has; never the genesis's.

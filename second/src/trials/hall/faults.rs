@@ -6,7 +6,7 @@ use crate::state::{Block, Epoch, Name, NodeNo, FIRST_EPOCH, LAST_EPOCH};
 use crate::trials::damage::{damage, likely};
 use crate::trials::records;
 
-use super::{Hall, RECEIVER};
+use super::{Desk, Hall};
 
 /// A faulty proposer sends two proposals for one epoch once in so many times.
 const TWO_SIDED: usize = 3;
@@ -36,7 +36,7 @@ enum Fault {
 
 const FAULTS: [(Fault, usize); 3] = [(Fault::Propose, 5), (Fault::Vote, 3), (Fault::Clock, 2)];
 
-impl Hall<'_> {
+impl<D: Desk> Hall<'_, D> {
     pub(super) fn fault(&mut self) {
         if self.faulty.is_empty() {
             return self.strange();
@@ -107,7 +107,7 @@ impl Hall<'_> {
     /// Two blocks in a row, fresher than all others, on any block: they tear a
     /// state whose kept final block they pass by.
     pub(super) fn fork(&mut self) {
-        let place = self.random.below(self.gateways[RECEIVER].count + 1);
+        let place = self.random.below(self.receiver().count + 1);
         let parent = self.receiver().blocks[place];
         let from = parent.epoch.next().max(self.receiver().local);
         let Some((epoch, node)) = self.faulty_turn(from) else {
@@ -132,17 +132,18 @@ impl Hall<'_> {
 
     /// The receiver hears a strange record, or an old one again.
     pub(super) fn strange(&mut self) {
-        let record = if self.random.once_in(OLD_AGAIN) && !self.heard.is_empty() {
-            self.random.one_of(&self.heard)
+        let kept = self.desk.kept();
+        let record = if self.random.once_in(OLD_AGAIN) && !kept.is_empty() {
+            self.random.one_of(kept)
         } else {
             records::bytes(&self.strange_record())
         };
-        self.hand_over(RECEIVER, &record);
+        self.hand_over(self.watched, &record);
     }
 
     pub(super) fn strange_record(&mut self) -> Record {
         let name = self.new_name();
-        let receiver = &self.gateways[RECEIVER];
+        let receiver = self.desk.gateway(self.watched);
         let mut record = likely(self.random, receiver, name);
         if !self.random.once_in(SOUND) {
             damage(self.random, receiver, &mut record);
