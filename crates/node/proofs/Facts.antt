@@ -15,9 +15,11 @@ use Rattle.table.specs.declared.rows.Found.{Found}
 use Rattle.table.specs.declared.State.{State}
 use Rattle.table.specs.Rows.{capacity, rows, size, at, hasVoter}
 use Rattle.table.proofs.Laws.{size-rows}
-use Rattle.pala.specs.Rules.{epochAt}
+use Rattle.pala.specs.Rules.{epochAt, freshest}
 use Rattle.pala.specs.Shape.{wellShaped}
+use Rattle.pala.specs.Steps.{freshEpoch}
 use Rattle.pala.proofs.Shapes.{shaped-count}
+use Rattle.rules.specs.declared.Top.{Top}
 
 pub le-yes : {x k n : ℕ} → x ≡ k → x ≤ n → leb k n ≡ true
 le-yes {k = k} {n = n} e h = le-leb k n (omega arith)
@@ -69,10 +71,10 @@ number e = ap (λ (q : Place). q .0) e
 pub kept-clock : {x : Epoch} {k : ℕ} → x ≡ record { 0 = k } → x .0 ≡ k
 kept-clock e = ap (λ (y : Epoch). y .0) e
 
--- the epoch of the block that stands there
-pub epoch-there : (t : List Block) {b : Block} {p : Place} {k : ℕ} → b ≡ at t (p .0) → p ≡ record { 0 = k } → b .epoch .0 ≡ epochAt t k
-unfolding epochAt
-epoch-there t a e = ap (λ (x : Block). x .epoch .0) a ∙ ap (λ (q : Place). at t (q .0) .epoch .0) e
+-- the epoch of the freshest block
+pub top-epoch : (s : State) {x : Top} → x ≡ record { place = record { 0 = freshest (s .n) (rows s) }; epoch = record { 0 = freshEpoch s } } → x .epoch .0 ≡ epochAt (rows s) (freshest (s .n) (rows s))
+unfolding freshEpoch
+top-epoch s e = ap (λ (x : Top). x .epoch .0) e
 
 -- the root and each block held
 pub sized : (s : State) → wellShaped s ≡ true → length (s .blocks) ≡ suc capacity → size (rows s) ≡ suc (s .count)

@@ -6,7 +6,7 @@ use mathlib.Core.Logic.{⊎-elim}
 use mathlib.Core.Path.{_≡_, sym, ap, _∙_}
 use native.Mathlib.Omega.{arith}
 use lib.Dec.{ltb}
-use lib.ListN.{length}
+use lib.ListN.{length, length-set}
 use Rattle.table.specs.declared.Epoch.{Epoch}
 use Rattle.table.specs.declared.Place.{Place}
 use Rattle.table.specs.declared.State.{State}
@@ -15,7 +15,7 @@ use Rattle.table.specs.Rows.{capacity, rows, size}
 use Rattle.table.proofs.Laws.{pick-yes, size-rows, highest-passes}
 use Rattle.pala.specs.Answers.{taken, lowestOf, shapedRows}
 use Rattle.pala.specs.Counts.{topEpoch}
-use Rattle.pala.specs.Effects.{effect}
+use Rattle.pala.specs.Effects.{put, effect}
 use Rattle.pala.specs.Rules.{epochAt, firm, freshest}
 use Rattle.pala.specs.Shape.{wellShaped}
 use Rattle.pala.specs.Step.{room, outcome, stepShaped}
@@ -23,9 +23,25 @@ use Rattle.pala.specs.Steps.{freshEpoch, newLocal, newBar, newKept, newTorn, se
 use Rattle.pala.proofs.Keeps.{step-shaped}
 use Rattle.pala.proofs.Shapes.{shaped-epoch}
 use Rattle.rules.specs.declared.Standing.{Standing}
-use Rattle.rules.specs.Standing.{standing}
+use Rattle.rules.specs.declared.columns.Columns.{Columns}
+use Rattle.rules.specs.Columns.{columns}
+use Rattle.rules.specs.Standing.{standing, standingBy}
+use Rattle.rules.proofs.Shown.{standing-shown}
+use Rattle.node.specs.declared.effects.Effect.{Effect}
+use Rattle.node.specs.Done.{done}
 
 -- ---- the steps
+
+-- an effect leaves as many rows
+pub done-rows : (s : State) (e : Effect) → length (s .blocks) ≡ suc capacity → length (done s e .blocks) ≡ suc capacity
+unfolding done put
+done-rows s e l = length-set (s .blocks) (e .row .0) (e .block) ∙ l
+
+-- where a state stands, told of its columns
+pub stands :
+    (t : State) → length (t .blocks) ≡ suc capacity → (c : Columns) → c ≡ columns t → (stand : Standing) →
+    stand ≡ standingBy c (t .clocks) (t .n) (t .local .0) (t .kept .0) → stand ≡ standing t
+stands t l c e stand h = h ∙ standing-shown t l c e
 
 module _ (s : State) (stand : Standing) (local bar : Epoch) (kept : Place) (e : stand ≡ standing s) where
   -- "the greatest of the old one, the freshest epoch + 1, and the number c"

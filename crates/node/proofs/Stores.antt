@@ -4,6 +4,8 @@ use mathlib.Core.List.{List}
 use mathlib.Core.Path.{_≡_, sym, ap, _∙_}
 use native.Mathlib.Numerals.{add-one}
 use native.Mathlib.Omega.{arith}
+use borrow.Author.Tests.{le-leb}
+use lib.Dec.{leb}
 use lib.ListN.{length, getD, set}
 use lib.Seq.{set-getD}
 use Rattle.table.specs.declared.Block.{Block}
@@ -12,7 +14,8 @@ use Rattle.table.specs.declared.NodeNo.{NodeNo}
 use Rattle.table.specs.declared.Place.{Place}
 use Rattle.table.specs.declared.State.{State}
 use Rattle.table.specs.Rows.{capacity, mostNodes, rows, at, withVoter}
-use Rattle.table.proofs.Laws.{at-rows}
+use Rattle.table.specs.Scan.{pick}
+use Rattle.table.proofs.Laws.{at-rows, pick-yes}
 use Rattle.pala.specs.Effects.{put, withBlock, withVote, withClock}
 use Rattle.pala.proofs.Grown.{laid-set}
 use Rattle.node.specs.declared.effects.Effect.{Effect}
@@ -25,12 +28,18 @@ module _ (s : State) (l : length (s .blocks) ≡ suc capacity) where
       ap (λ (k : ℕ). put s (set (s .blocks) k b) k (s .clocks) (s .voted .0) proposed) (add-one (s .count))
       ∙ ap (λ (x : List Block). put s x (suc (s .count)) (s .clocks) (s .voted .0) proposed) (sym (laid-set (s .blocks) (suc (s .count)) b (omega arith)))
 
-  vote-stored : (p i voted : ℕ) (b d : Block) → p ≤ s .count → s .count ≤ capacity → b ≡ withVoter (getD (s .blocks) p d) i → put s (set (s .blocks) p b) (s .count) (s .clocks) voted (s .proposed .0) ≡ withVote s p i voted
+  vote-stored : (p i voted : ℕ) (b : Block) → p ≤ s .count → s .count ≤ capacity → b ≡ withVoter (at (rows s) p) i → put s (set (s .blocks) p b) (s .count) (s .clocks) voted (s .proposed .0) ≡ withVote s p i voted
   unfolding withVote
-  vote-stored p i voted b d h k e =
+  vote-stored p i voted b h k e =
       let inside : p < length (s .blocks) = omega arith in
-      ap (λ (x : Block). put s (set (s .blocks) p x) (s .count) (s .clocks) voted (s .proposed .0)) (e ∙ ap (λ (x : Block). withVoter x i) (sym (at-rows s p d h inside)))
+      ap (λ (x : Block). put s (set (s .blocks) p x) (s .count) (s .clocks) voted (s .proposed .0)) e
       ∙ ap (λ (x : List Block). put s x (s .count) (s .clocks) voted (s .proposed .0)) (sym (laid-set (s .blocks) p (withVoter (at (rows s) p) i) inside))
+
+  -- the row of a place that is held
+  pub row-held : (p k : ℕ) (d : Block) → k ≡ pick (leb p capacity) p 0 → s .count ≤ capacity → p ≤ s .count → getD (s .blocks) k d ≡ at (rows s) p
+  row-held p k d e h m =
+      ap (λ (x : ℕ). getD (s .blocks) x d) (e ∙ pick-yes (leb p capacity) p 0 (le-leb p capacity (omega arith)))
+      ∙ sym (at-rows s p d m (omega arith))
 
 -- what stands is written as it stands
 module _ (s : State) where
@@ -48,13 +57,13 @@ module _ (s : State) where
         who = o;
       }
 
-  pub vote-does : length (s .blocks) ≡ suc capacity → (p : Place) (i : ℕ) (clock voted d : Epoch) (b x : Block) → p .0 ≤ s .count → s .count ≤ capacity → s .own .0 < mostNodes → b ≡ withVoter (getD (s .blocks) (p .0) x) i → clock ≡ getD (s .clocks) (s .own .0) d → Does s (record { row = p; block = b; who = s .own; clock = clock; count = s .count; voted = voted; proposed = s .proposed }) (withVote s (p .0) i (voted .0))
+  pub vote-does : length (s .blocks) ≡ suc capacity → (p : Place) (i : ℕ) (clock voted d : Epoch) (b x : Block) → x ≡ at (rows s) (p .0) → p .0 ≤ s .count → s .count ≤ capacity → s .own .0 < mostNodes → b ≡ withVoter x i → clock ≡ getD (s .clocks) (s .own .0) d → Does s (record { row = p; block = b; who = s .own; clock = clock; count = s .count; voted = voted; proposed = s .proposed }) (withVote s (p .0) i (voted .0))
   unfolding done
-  vote-does l p i clock voted d b x h k o w e =
+  vote-does l p i clock voted d b x held h k o w e =
       record {
         makes =
             ap (λ (y : List Epoch). put s (set (s .blocks) (p .0) b) (s .count) y (voted .0) (s .proposed .0)) (clock-stands (s .own .0) clock d e)
-            ∙ vote-stored s l (p .0) i (voted .0) b x h k w;
+            ∙ vote-stored s l (p .0) i (voted .0) b h k (w ∙ ap (λ (y : Block). withVoter y i) held);
         row = omega arith;
         who = o;
       }

@@ -18,7 +18,7 @@ ghost use mathlib.Core.Bool.{true};
 ghost use mathlib.Core.List.{List};
 ghost use mathlib.Core.Path.{_≡_};
 ghost use lib.ListN.{getD};
-ghost use Rattle.table.specs.Rows.{capacity, mostNodes};
+ghost use Rattle.table.specs.Rows.{at, capacity, mostNodes, rows};
 ghost use Rattle.pala.specs.Effects.{effect, newBlock, withBlock, withClock, withVote};
 ghost use Rattle.pala.specs.Shape.{wellShaped};
 ghost use Rattle.node.specs.Done.{Does};
@@ -48,14 +48,14 @@ fn new_block(name: [u8; 32], epoch: Epoch, parent: Place, payload: [u8; 24]) -> 
     }
 }
 
-// The own clock kept, which is written as it stands.
-fn kept_clock(s: State) -> Epoch
-    requires { ⌜ s .own .0 < mostNodes ⌝ }
-    ensures { λ r. ⌜ r ≡ getD (s .clocks) (s .own .0) (record { 0 = 0 }) ⌝ }
+// A node's clock kept, which is written as it stands.
+fn kept_clock(clocks: [Epoch; 32], who: NodeNo) -> Epoch
+    requires { ⌜ who .0 < mostNodes ⌝ }
+    ensures { λ r. ⌜ r ≡ getD clocks (who .0) (record { 0 = 0 }) ⌝ }
 {
-    let k = s.own.0;
+    let k = who.0;
     let i = k as usize;
-    s.clocks[i]
+    clocks[i]
 }
 
 // One block more, at the next place.
@@ -64,8 +64,9 @@ fn block_added(s: State, b: Block, proposed: Epoch) -> Effect
     ensures { λ e. ⌜ Does s e (withBlock s b (proposed .0)) ⌝ }
 {
     let k = s.count + 1;
-    let clock = kept_clock(s);
+    let clocks = s.clocks;
     let own = s.own;
+    let clock = kept_clock(clocks, own);
     let voted = s.voted;
     Effect {
         row: Place(k),
@@ -78,22 +79,24 @@ fn block_added(s: State, b: Block, proposed: Epoch) -> Effect
     }
 }
 
-// One voter more at a place.
-fn vote_added(s: State, place: Place, who: NodeNo, voted: Epoch) -> Effect
-    requires { ⌜ (place .0 ≤ s .count) × (s .count ≤ capacity) × (s .own .0 < mostNodes) ⌝ }
+// One voter more of the block held at a place.
+fn vote_added(s: State, held: Block, place: Place, who: NodeNo, voted: Epoch) -> Effect
+    requires { ⌜ (held ≡ at (rows s) (place .0)) × (place .0 ≤ s .count) × (s .count ≤ capacity) × (s .own .0 < mostNodes) ⌝ }
     ensures { λ e. ⌜ Does s e (withVote s (place .0) (who .0) (voted .0)) ⌝ }
 {
-    let k = place.0;
-    let i = k as usize;
-    let b = with_voter(s.blocks[i], who);
+    let b = with_voter(held, who);
+    let clocks = s.clocks;
+    let own = s.own;
+    let clock = kept_clock(clocks, own);
+    let proposed = s.proposed;
     Effect {
         row: place,
         block: b,
-        who: s.own,
-        clock: kept_clock(s),
+        who: own,
+        clock: clock,
         count: s.count,
         voted: voted,
-        proposed: s.proposed,
+        proposed: proposed,
     }
 }
 
@@ -114,9 +117,9 @@ fn clock_kept(s: State, who: NodeNo, clock: Epoch) -> Effect
     }
 }
 
-// The direct effect of a record that is taken.
-pub fn effect_of(s: State, f: Fields, place: Place) -> Effect
-    requires { ⌜ (wellShaped s ≡ true) × ((r : List ℕ) × Granted s f place r) ⌝ }
+// The direct effect of a record that is taken, with the block held at its place. Of the state it reads the numbers alone.
+pub fn effect_of(s: State, held: Block, f: Fields, place: Place) -> Effect
+    requires { ⌜ (wellShaped s ≡ true) × ((r : List ℕ) × Granted s f place r) × (place .0 ≤ s .count → held ≡ at (rows s) (place .0)) ⌝ }
     ensures { λ e. ⌜ ((r : List ℕ) → Granted s f place r → Does s e (effect s r)) ⌝ }
 {
     let kind = f.kind;
@@ -127,7 +130,7 @@ pub fn effect_of(s: State, f: Fields, place: Place) -> Effect
         return block_added(s, b, s.proposed);
     }
     if kind == VOTE_HEARD {
-        return vote_added(s, place, f.sender, s.voted);
+        return vote_added(s, held, place, f.sender, s.voted);
     }
     if kind == CLOCK_HEARD {
         return clock_kept(s, f.sender, f.epoch);
@@ -137,7 +140,7 @@ pub fn effect_of(s: State, f: Fields, place: Place) -> Effect
         return block_added(s, b, s.local);
     }
     if kind == CAST_NOW {
-        return vote_added(s, place, s.own, s.local);
+        return vote_added(s, held, place, s.own, s.local);
     }
     clock_kept(s, s.own, Epoch(s.local.0 + 1))
 }

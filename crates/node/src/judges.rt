@@ -11,7 +11,6 @@ use table::CAPACITY;
 use table::Place;
 use table::State;
 use table::names::zero_name;
-use table::rows::at;
 use table::rows::find;
 use table::voters::has_voter;
 ghost use Prim.Native.Nat.{ℕ};
@@ -128,9 +127,9 @@ pub fn judge_propose(s: State, f: Fields) -> Move
     if held.0 <= s.count {
         return refused(Answer::Name);
     }
-    let parent = freshest(s);
-    let b = at(s, parent);
-    if e <= b.epoch.0 {
+    let top = freshest(s);
+    let parent = top.place;
+    if e <= top.epoch.0 {
         return refused(Answer::Order);
     }
     if s.own.0 != e % s.n {

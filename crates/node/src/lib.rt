@@ -12,7 +12,6 @@ mod settling;
 
 use answers::is_taken;
 use decide::decide;
-use effects::effect_of;
 use moves::passed_over;
 use record::Fields;
 use record::RECORD_BYTES;
@@ -102,7 +101,7 @@ pub fn take_shaped(s: State, d: Decision) -> State
 {
     let f = d.fields;
     let place = d.place;
-    settle(s, effect_of(s, f, place))
+    settle(s, f, place)
 }
 
 // A call on a well-shaped state.

@@ -1,17 +1,24 @@
 // "Then, always in this order": the five steps.
 
-use crate::effects::Effect;
+use crate::effects::effect_of;
+use record::Fields;
+use rules::columns::columns_of;
 use rules::steps::standing;
+use table::CAPACITY;
 use table::Epoch;
 use table::Place;
 use table::State;
-ghost use Prim.Native.Nat.{_<_, _≤_, max};
+ghost use Prim.Native.Nat.{ℕ, _≤_, max};
+ghost use mathlib.Core.Bool.{true};
+ghost use mathlib.Core.List.{List};
+ghost use lib.Dec.{leb};
 ghost use mathlib.Core.Path.{_≡_};
-ghost use Rattle.table.specs.Rows.{capacity, mostNodes};
+ghost use Rattle.table.specs.Rows.{capacity};
 ghost use Rattle.table.specs.Scan.{pick};
-ghost use Rattle.pala.specs.Counts.{topEpoch};
-ghost use Rattle.pala.specs.Steps.{freshEpoch, settled};
-ghost use Rattle.node.specs.Done.{done};
+ghost use Rattle.pala.specs.Effects.{effect};
+ghost use Rattle.pala.specs.Shape.{wellShaped};
+ghost use Rattle.pala.specs.Steps.{settled};
+ghost use Rattle.node.specs.Moves.{Granted};
 
 // The greater of two epochs.
 fn later(a: Epoch, b: Epoch) -> Epoch
@@ -43,12 +50,26 @@ fn place_by(test: bool, a: Place, b: Place) -> Place
     b
 }
 
-// The state after a direct effect and the five steps.
-pub fn settle(s: State, e: Effect) -> State
-    requires { ⌜ (freshEpoch (done s e) < topEpoch) × (e .row .0 ≤ capacity) × (e .who .0 < mostNodes) ⌝ }
-    ensures { λ t. ⌜ t ≡ settled (done s e) ⌝ }
+// The row that a place names; the genesis's for one past the table.
+fn row_of(place: Place) -> usize
+    ensures { λ r. ⌜ (r ≡ pick (leb (place .0) capacity) (place .0) 0) × (r ≤ capacity) ⌝ }
+{
+    let k = place.0;
+    if CAPACITY < k {
+        return 0;
+    }
+    k as usize
+}
+
+// The state after the direct effect of a record that is taken, and the five steps. Only here are the rows copied, and once.
+pub fn settle(s: State, f: Fields, place: Place) -> State
+    requires { ⌜ (wellShaped s ≡ true) × ((r : List ℕ) × Granted s f place r) ⌝ }
+    ensures { λ t. ⌜ ((r : List ℕ) → Granted s f place r → t ≡ settled (effect s r)) ⌝ }
 {
     let mut next = s;
+    let at = row_of(place);
+    let held = next.blocks[at];
+    let e = effect_of(s, held, f, place);
     let r = e.row.0;
     let i = r as usize;
     let b = e.block;
@@ -62,7 +83,9 @@ pub fn settle(s: State, e: Effect) -> State
     next.count = e.count;
     next.voted = voted;
     next.proposed = proposed;
-    let stand = standing(next);
+    let columns = columns_of(next);
+    let clocks = next.clocks;
+    let stand = standing(columns, clocks, next.n, next.local, next.kept);
     let fresh = stand.fresh;
     let local = later(stand.clock, Epoch(fresh.0 + 1));
     let rose = next.local.0 < local.0;

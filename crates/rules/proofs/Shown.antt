@@ -18,7 +18,9 @@ use Rattle.pala.specs.Rules.{epochAt, lower, fall, among, line, parentOf, notar
 use Rattle.pala.specs.Steps.{freshEpoch, forward}
 use Rattle.rules.specs.declared.columns.Columns.{Columns}
 use Rattle.rules.specs.Columns.{places, upTo, cell, numberAt, markAt, upOf, markOf, columns, firmBy, freshestBy, lastNormalBy, votableBy}
-use Rattle.rules.specs.Standing.{standing}
+use Rattle.rules.specs.declared.Standing.{Standing}
+use Rattle.rules.specs.declared.Top.{Top}
+use Rattle.rules.specs.Standing.{standing, standingBy}
 use Rattle.rules.proofs.Cells.{cell-upTo, made, made-end, made-start, made-step}
 
 -- ---- the columns of a state
@@ -79,37 +81,61 @@ module _ (s : State) (held : length (s .blocks) ≡ places) where
     unfolding votableBy ballot votable firmBy firm notarized line parentOf upOf markOf
     ballot-shown local bar voted = shown (λ k up epoch mark. lowest k (votableBy up epoch mark local bar voted)) c e
 
-    -- the freshest block, the last normal one on its chain, that one's parent, and what is told of them
-    pub standing-shown : (top last cand : Place) (fresh clock : Epoch) (fwd back : Bool)
+    -- the epoch of the freshest
+    pub fresh-shown : numberAt (c .epochs) (freshest (s .n) (rows s)) ≡ freshEpoch s
+    unfolding freshEpoch
+    fresh-shown = shown (λ _ _ epoch _. epoch (freshest (s .n) (rows s))) c e
+
+    pub top-shown : (top : Place) (fresh : Epoch)
         → top ≡ record { 0 = freshestBy (c .size) (numberAt (c .parents)) (numberAt (c .epochs)) (markAt (c .marks)) }
-        → last ≡ record { 0 = lastNormalBy (numberAt (c .parents)) (numberAt (c .epochs)) (top .0) }
-        → cand ≡ record { 0 = lower (numberAt (c .parents)) (last .0) }
         → fresh ≡ record { 0 = numberAt (c .epochs) (top .0) }
-        → clock ≡ record { 0 = max (s .local .0) (agreed (s .n) (s .clocks)) }
-        → fwd ≡ among (s .kept .0) (fall (numberAt (c .parents)) (cand .0))
-        → back ≡ among (cand .0) (fall (numberAt (c .parents)) (s .kept .0))
-        → record { fresh = fresh; clock = clock; candidate = cand; forward = fwd; back = back } ≡ standing s
-    unfolding standing freshEpoch forward descends line candidate parentOf normal lastNormalBy upOf
-    standing-shown top last cand fresh clock fwd back top-is last-is cand-is fresh-is clock-is fwd-is back-is =
-        let t = rows s in
-        let f = freshest (s .n) t in
-        let k = candidate (s .n) t in
-        let up = numberAt (c .parents) in
-        let epoch = numberAt (c .epochs) in
-        let p : Place → ℕ = λ q. q .0 in
-        let top-at : top .0 ≡ f = ap p top-is ∙ freshest-shown in
-        let cand-at : cand .0 ≡ k =
-        ap p cand-is
-        ∙ ap (lower up) (ap p last-is ∙ ap (lastNormalBy up epoch) top-at)
-        ∙ shown (λ _ u v _. lower u (lastNormalBy u v f)) c e in
-        let fresh-at : fresh ≡ record { 0 = freshEpoch s } =
-        fresh-is ∙ ap (λ (q : ℕ). record { 0 = epoch q }) top-at ∙ shown (λ _ _ v _. record { 0 = v f }) c e in
-        let fwd-at : fwd ≡ forward s =
-        fwd-is ∙ ap (λ (q : ℕ). among (s .kept .0) (fall up q)) cand-at ∙ shown (λ _ u _ _. among (s .kept .0) (fall u k)) c e in
-        let back-at : back ≡ descends t (s .kept .0) k =
-        back-is ∙ ap (λ (q : ℕ). among q (fall up (s .kept .0))) cand-at ∙ shown (λ _ u _ _. among k (fall u (s .kept .0))) c e in
-        ap (λ (x : Epoch). record { fresh = x; clock = clock; candidate = cand; forward = fwd; back = back }) fresh-at
-        ∙ ap (λ (x : Epoch). record { fresh = standing s .fresh; clock = x; candidate = cand; forward = fwd; back = back }) clock-is
-        ∙ ap (λ (x : ℕ). record { fresh = standing s .fresh; clock = standing s .clock; candidate = record { 0 = x }; forward = fwd; back = back }) cand-at
-        ∙ ap (λ (x : Bool). record { fresh = standing s .fresh; clock = standing s .clock; candidate = standing s .candidate; forward = x; back = back }) fwd-at
-        ∙ ap (λ (x : Bool). record { fresh = standing s .fresh; clock = standing s .clock; candidate = standing s .candidate; forward = standing s .forward; back = x }) back-at
+        → _≡_ {A = Top} (record { place = top; epoch = fresh }) (record { place = record { 0 = freshest (s .n) (rows s) }; epoch = record { 0 = freshEpoch s } })
+    top-shown top fresh top-is fresh-is =
+        let at : top ≡ record { 0 = freshest (s .n) (rows s) } = top-is ∙ ap (λ (k : ℕ). record { 0 = k }) freshest-shown in
+        let of : fresh ≡ record { 0 = freshEpoch s } =
+        fresh-is ∙ ap (λ (q : Place). record { 0 = numberAt (c .epochs) (q .0) }) at ∙ ap (λ (k : ℕ). record { 0 = k }) fresh-shown in
+        λ i. record { place = at i; epoch = of i }
+
+    -- the freshest block, the last normal one on its chain, that one's parent, and what is told of them
+    pub standing-shown : standingBy c (s .clocks) (s .n) (s .local .0) (s .kept .0) ≡ standing s
+    unfolding standingBy standing freshEpoch forward descends line candidate parentOf normal freshest freshestBy firmBy firm notarized lastNormalBy upOf markOf
+    standing-shown =
+        shown
+        (λ k up epoch mark.
+        let next : ℕ = lower up (lastNormalBy up epoch (freshestBy k up epoch mark)) in
+        record {
+          fresh = record { 0 = epoch (freshestBy k up epoch mark) };
+          clock = record { 0 = max (s .local .0) (agreed (s .n) (s .clocks)) };
+          candidate = record { 0 = next };
+          forward = among (s .kept .0) (fall up next);
+          back = among next (fall up (s .kept .0));
+        })
+        c e
+
+-- ---- where a table stands, of its columns
+
+module _ (c : Columns) (clocks : List Epoch) (n local kept : ℕ) where
+  up : ℕ → ℕ
+  up = numberAt (c .parents)
+
+  epoch : ℕ → ℕ
+  epoch = numberAt (c .epochs)
+
+  pub standing-made : (top last cand : Place) (fresh clock : Epoch) (fwd back : Bool)
+      → top ≡ record { 0 = freshestBy (c .size) (numberAt (c .parents)) (numberAt (c .epochs)) (markAt (c .marks)) }
+      → last ≡ record { 0 = lastNormalBy (numberAt (c .parents)) (numberAt (c .epochs)) (top .0) }
+      → cand ≡ record { 0 = lower (numberAt (c .parents)) (last .0) }
+      → fresh ≡ record { 0 = numberAt (c .epochs) (top .0) }
+      → clock ≡ record { 0 = max local (agreed n clocks) }
+      → fwd ≡ among kept (fall (numberAt (c .parents)) (cand .0))
+      → back ≡ among (cand .0) (fall (numberAt (c .parents)) kept)
+      → record { fresh = fresh; clock = clock; candidate = cand; forward = fwd; back = back } ≡ standingBy c clocks n local kept
+  unfolding standingBy up epoch
+  standing-made top last cand fresh clock fwd back top-is last-is cand-is fresh-is clock-is fwd-is back-is =
+      let top-at : top .0 ≡ freshestBy (c .size) up epoch (markAt (c .marks)) = ap (λ (q : Place). q .0) top-is in
+      let cand-at : cand ≡ record { 0 = lower up (lastNormalBy up epoch (freshestBy (c .size) up epoch (markAt (c .marks)))) } =
+      cand-is ∙ ap (λ (q : Place). record { 0 = lower up (q .0) }) last-is ∙ ap (λ (k : ℕ). record { 0 = lower up (lastNormalBy up epoch k) }) top-at in
+      let fresh-at = fresh-is ∙ ap (λ (k : ℕ). record { 0 = epoch k }) top-at in
+      let fwd-at = fwd-is ∙ ap (λ (q : Place). among kept (fall up (q .0))) cand-at in
+      let back-at = back-is ∙ ap (λ (q : Place). among (q .0) (fall up kept)) cand-at in
+      λ i. record { fresh = fresh-at i; clock = clock-is i; candidate = cand-at i; forward = fwd-at i; back = back-at i }

@@ -1,10 +1,14 @@
 -- What the five steps need of a state.
-use Prim.Native.Nat.{max}
+use Prim.Native.Nat.{ℕ, max}
+use mathlib.Core.List.{List}
+use Rattle.table.specs.declared.Epoch.{Epoch}
 use Rattle.table.specs.declared.State.{State}
 use Rattle.table.specs.Rows.{rows}
-use Rattle.pala.specs.Rules.{agreed, candidate, descends}
+use Rattle.pala.specs.Rules.{lower, fall, among, agreed, candidate, descends}
 use Rattle.pala.specs.Steps.{freshEpoch, forward}
 use Rattle.rules.specs.declared.Standing.{Standing}
+use Rattle.rules.specs.declared.columns.Columns.{Columns}
+use Rattle.rules.specs.Columns.{numberAt, markAt, freshestBy, lastNormalBy}
 
 unfoldable pub standing : State → Standing
 unfolding freshEpoch agreed candidate forward descends rows
@@ -15,4 +19,20 @@ standing s =
       candidate = record { 0 = candidate (s .n) (rows s) };
       forward = forward s;
       back = descends (rows s) (s .kept .0) (candidate (s .n) (rows s));
+    }
+
+-- the same of a table's columns
+unfoldable pub standingBy : Columns → List Epoch → ℕ → ℕ → ℕ → Standing
+unfolding numberAt markAt freshestBy lastNormalBy lower fall among agreed
+standingBy c clocks n local kept =
+    let up : ℕ → ℕ = numberAt (c .parents) in
+    let epoch : ℕ → ℕ = numberAt (c .epochs) in
+    let top : ℕ = freshestBy (c .size) up epoch (markAt (c .marks)) in
+    let next : ℕ = lower up (lastNormalBy up epoch top) in
+    record {
+      fresh = record { 0 = epoch top };
+      clock = record { 0 = max local (agreed n clocks) };
+      candidate = record { 0 = next };
+      forward = among kept (fall up next);
+      back = among next (fall up kept);
     }

@@ -1,8 +1,8 @@
 // "The rule reads down the ancestors, whose places fall": from a block to its parent, the place being the falling number.
 
-use crate::columns::epoch_at;
-use crate::columns::lower_at;
-use crate::columns::mark_at;
+use crate::lookups::epoch_at;
+use crate::lookups::lower_at;
+use crate::lookups::mark_at;
 use table::Epoch;
 use table::Place;
 ghost use mathlib.Core.Path.{_≡_};

@@ -7,10 +7,17 @@ use table::Place;
 
 mod chains;
 mod clocks;
-mod columns;
+pub mod columns;
+mod lookups;
 pub mod quorum;
 mod scans;
 pub mod steps;
+
+// The freshest block: its place and its epoch.
+pub struct Top {
+    pub place: Place,
+    pub epoch: Epoch,
+}
 
 // What the five steps need of a state: the freshest block's epoch, the greater of the local epoch and the agreed clock,
 // the candidate, and whether the candidate descends from the kept final block and the kept one from it.

@@ -1,8 +1,8 @@
 // Searches over the places of a table.
 
 use crate::chains::firm;
-use crate::columns::epoch_at;
-use crate::columns::lower_at;
+use crate::lookups::epoch_at;
+use crate::lookups::lower_at;
 use table::Epoch;
 use table::Place;
 ghost use mathlib.Core.Path.{_≡_};

@@ -1,27 +1,35 @@
 // What the rows and the five steps ask of a state.
 
 use crate::Standing;
+use crate::Top;
 use crate::chains::descends;
 use crate::chains::last_normal;
 use crate::clocks::clock_of;
+use crate::columns::Columns;
 use crate::columns::columns_of;
-use crate::columns::epoch_at;
-use crate::columns::lower_at;
+use crate::lookups::epoch_at;
+use crate::lookups::lower_at;
 use crate::scans::ballot_of;
 use crate::scans::freshest_of;
+use table::Epoch;
 use table::Place;
 use table::State;
 ghost use mathlib.Core.Path.{_≡_};
 ghost use Rattle.table.specs.Rows.{rows};
 ghost use Rattle.pala.specs.Rules.{ballot, freshest};
-ghost use Rattle.rules.specs.Standing.{standing};
+ghost use Rattle.pala.specs.Steps.{freshEpoch};
+ghost use Rattle.rules.specs.Standing.{standingBy};
 
 // "Freshest: the firm block of highest epoch; of equals the lowest place."
-pub fn freshest(s: State) -> Place
-    ensures { λ r. ⌜ r ≡ record { 0 = freshest (s .n) (rows s) } ⌝ }
+pub fn freshest(s: State) -> Top
+    ensures { λ r. ⌜ r ≡ record { place = record { 0 = freshest (s .n) (rows s) }; epoch = record { 0 = freshEpoch s } } ⌝ }
 {
     let c = columns_of(s);
-    freshest_of(&c.parents, &c.epochs, &c.marks, c.size)
+    let top = freshest_of(&c.parents, &c.epochs, &c.marks, c.size);
+    Top {
+        place: top,
+        epoch: epoch_at(&c.epochs, top),
+    }
 }
 
 // "the lowest place that may be voted for"; the size of the table where there is none
@@ -40,20 +48,18 @@ pub fn ballot(s: State) -> Place
     )
 }
 
-// All that the five steps need, with the columns made once.
-pub fn standing(s: State) -> Standing
-    ensures { λ r. ⌜ r ≡ standing s ⌝ }
+// All that the five steps need, of a table's columns and of what stands beside it: whoever has the state makes them from it where it is.
+pub fn standing(c: Columns, clocks: [Epoch; 32], n: u32, local: Epoch, kept: Place) -> Standing
+    ensures { λ r. ⌜ r ≡ standingBy c clocks n (local .0) (kept .0) ⌝ }
 {
-    let c = columns_of(s);
     let top = freshest_of(&c.parents, &c.epochs, &c.marks, c.size);
     let last = last_normal(&c.parents, &c.epochs, top);
     let candidate = lower_at(&c.parents, last);
-    let clocks = s.clocks;
     Standing {
         fresh: epoch_at(&c.epochs, top),
-        clock: clock_of(clocks, s.n, s.local),
+        clock: clock_of(clocks, n, local),
         candidate: candidate,
-        forward: descends(&c.parents, candidate, s.kept),
-        back: descends(&c.parents, s.kept, candidate),
+        forward: descends(&c.parents, candidate, kept),
+        back: descends(&c.parents, kept, candidate),
     }
 }

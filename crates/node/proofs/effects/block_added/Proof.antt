@@ -20,8 +20,9 @@ kept-clock-requires c κs = search needs
 
 returns : tie.Need-returns
 returns c =
-    let s = c .before .before .before .before in
-    block-does _ (held s) _ _ _ _ (s .pre .0) (s .pre .1) (c .before .before .kept-clock .ensures)
+    let k = c .before in
+    let s = k .before .before .before .before in
+    block-does _ (held s) _ _ _ _ (s .pre .0) (s .pre .1) (k .kept-clock .ensures)
 
 pub block-added-spec : {M : Type 1} → statement M
 block-added-spec = tie.close (tie.spec add-k kept-clock-requires returns)

@@ -33,7 +33,8 @@ returns c r g =
 vote-added-requires : tie.Need-vote-added-requires
 vote-added-requires c κs =
     let s = c .before .before .before .before in
-    (vote-held (s .pre .1 .1) (s .pre .0) (held s) (c .if2 .taken), shaped-count _ (s .pre .0), own-below (s .pre .1 .1) (s .pre .0))
+    let there = vote-held (s .pre .1 .1) (s .pre .0) (held s) (c .if2 .taken) in
+    (s .pre .2 there, there, shaped-count _ (s .pre .0), own-below (s .pre .1 .1) (s .pre .0))
 
 returns-2 : tie.Need-returns-2
 returns-2 c r g = does-as (c .vote-added .ensures) (vote-done g (c .before .if2 .taken))
@@ -61,7 +62,8 @@ returns-4 c r g =
 vote-added-requires-2 : tie.Need-vote-added-requires-2
 vote-added-requires-2 c κs =
     let s = c .before .before .before .before .before .before .before in
-    (cast-held (s .pre .1 .1) (s .pre .0) (held s) (c .if5 .taken), shaped-count _ (s .pre .0), own-below (s .pre .1 .1) (s .pre .0))
+    let there = cast-held (s .pre .1 .1) (s .pre .0) (held s) (c .if5 .taken) in
+    (s .pre .2 there, there, shaped-count _ (s .pre .0), own-below (s .pre .1 .1) (s .pre .0))
 
 returns-5 : tie.Need-returns-5
 returns-5 c r g = does-as (c .vote-added2 .ensures) (cast-done g (c .before .if5 .taken))
@@ -74,8 +76,8 @@ sixth :
 sixth c g =
     last-kind g (c .before .before .before .before .if1 .left) (c .before .before .before .if2 .left) (c .before .before .if3 .left) (c .before .if4 .left) (c .if5 .left)
 
-add-t10 : tie.Need-add-t10
-add-t10 c =
+add-t11 : tie.Need-add-t11
+add-t11 c =
     let g = c .before .before .before .before .before .before .before .before .pre .1 .1 in
     omega (arith, minute-left g (sixth (c .before) g))
 
@@ -103,6 +105,6 @@ effect-of-spec =
     returns-4
     vote-added-requires-2
     returns-5
-    add-t10
+    add-t11
     clock-kept-requires-2
     returns-6)

@@ -9,17 +9,8 @@ use Rattle.node.proofs.Stores.{vote-does}
 use Rattle.node.proofs.effects.vote_added.Statement.{statement}
 use Rattle.node.proofs.effects.vote_added.Tie as tie
 
-held : (c : tie.Start) → length (c .args .t1 .blocks) ≡ suc capacity
+held : (c : tie.Start) → length (c .args .s .blocks) ≡ suc capacity
 held c = search length-unmap
-
-cast-i : tie.Need-cast-i
-cast-i c = search needs
-
-mul-with-voter : tie.Need-mul-with-voter
-mul-with-voter c = search needs
-
-element-copy-out-with-voter : tie.Need-element-copy-out-with-voter
-element-copy-out-with-voter c = search needs
 
 with-voter-requires : tie.Need-with-voter-requires
 with-voter-requires c κs = search needs
@@ -29,17 +20,9 @@ kept-clock-requires c κs = search needs
 
 returns : tie.Need-returns
 returns c =
-    let w = c .before .before .before in
-    let s = w .before .before in
-    vote-does _ (held s) _ _ _ _ _ _ _ (s .pre .0) (s .pre .1) (s .pre .2) (w .with-voter .ensures) (c .before .kept-clock .ensures)
+    let w = c .before .before .before .before in
+    let s = w .before in
+    vote-does _ (held s) _ _ _ _ _ _ _ (s .pre .0) (s .pre .1) (s .pre .2) (s .pre .3) (w .with-voter .ensures) (c .before .kept-clock .ensures)
 
 pub vote-added-spec : {M : Type 1} → statement M
-vote-added-spec =
-    tie.close
-    (tie.spec
-    cast-i
-    mul-with-voter
-    element-copy-out-with-voter
-    with-voter-requires
-    kept-clock-requires
-    returns)
+vote-added-spec = tie.close (tie.spec with-voter-requires kept-clock-requires returns)

@@ -8,7 +8,6 @@ use borrow.Author.Needs.{needs}
 use borrow.Author.Tests.{lt-ltb, le-ltb, le-leb, lt-leb, eq-eqb, ne-eqb}
 use lib.ListN.{length}
 use Rattle.table.specs.declared.Answer.{Answer}
-use Rattle.table.specs.declared.Place.{Place}
 use Rattle.table.specs.Rows.{capacity, rows}
 use Rattle.table.proofs.Laws.{length-unmap}
 use Rattle.pala.specs.Rules.{freshest}
@@ -16,12 +15,13 @@ use Rattle.pala.specs.Answers.{taken, proposer}
 use Rattle.pala.specs.Step.{room}
 use Rattle.pala.proofs.Shapes.{shaped-nodes}
 use Rattle.record.specs.Fields.{fieldsOf}
+use Rattle.rules.specs.declared.Top.{Top}
 use Rattle.node.specs.declared.Move.{Move}
 use Rattle.node.specs.Moves.{judged}
 use Rattle.node.proofs.Ways.{Through, Past}
 use Rattle.node.proofs.Ways.Through.{refuses, passes, takes}
 use Rattle.node.proofs.ByKind.{proposeRows, propose-judged}
-use Rattle.node.proofs.Facts.{le-yes, le-no, least-yes, least-no, not-is-yes, not-is-no, found-place, epoch-there, sized}
+use Rattle.node.proofs.Facts.{le-yes, le-no, least-yes, least-no, not-is-yes, not-is-no, found-place, top-epoch, sized}
 use Rattle.node.proofs.judges.judge_propose.Statement.{statement}
 use Rattle.node.proofs.judges.judge_propose.Tie as tie
 
@@ -57,7 +57,7 @@ abbrev from-4 : tie.Else4 → tie.Start
 from-4 c = from-3 (c .before .before .before .before)
 
 past-4 : (c : tie.Else4) → To (from-4 c) 4
-past-4 c m way = past-3 (c .before .before .before .before) m (passes (least-no (epoch-there _ (c .before .before .at .ensures) (c .before .before .before .freshest .ensures)) (c .if4 .left)) way)
+past-4 c m way = past-3 (c .before .before .before .before) m (passes (least-no (top-epoch _ (c .before .before .before .freshest .ensures)) (c .if4 .left)) way)
 
 abbrev from-5 : tie.Else5 → tie.Start
 from-5 c = from-4 (c .before .before .before)
@@ -109,15 +109,12 @@ returns-3 c r e = c .refused3 .ensures ∙ given (from-2 (c .before .before .bef
 freshest-requires : tie.Need-freshest-requires
 freshest-requires c κs = search needs
 
-at-requires : tie.Need-at-requires
-at-requires c κs = search needs
-
 refused-requires-4 : tie.Need-refused-requires-4
 refused-requires-4 c κs = search needs
 
 returns-4 : tie.Need-returns-4
 unfolding taken
-returns-4 c r e = c .refused4 .ensures ∙ given (from-3 (c .before .before .before .before .before)) _ (past-3 (c .before .before .before .before .before) _ (refuses (least-yes (epoch-there _ (c .before .before .before .at .ensures) (c .before .before .before .before .freshest .ensures)) (c .before .if4 .taken)) refl)) r e
+returns-4 c r e = c .refused4 .ensures ∙ given (from-3 (c .before .before .before .before .before)) _ (past-3 (c .before .before .before .before .before) _ (refuses (least-yes (top-epoch _ (c .before .before .before .before .freshest .ensures)) (c .before .if4 .taken)) refl)) r e
 
 rem-if5 : tie.Need-rem-if5
 rem-if5 c = omega (arith, shaped-nodes (from-4 (c .before) .args .s) (from-4 (c .before) .pre .0))
@@ -144,7 +141,7 @@ unfolding taken room
 returns-7 c r e = c .refused7 .ensures ∙ given (from-6 (c .before .before .before)) _ (past-6 (c .before .before .before) _ (refuses (ap not (le-ltb _ _ (c .before .if7 .taken))) refl)) r e
 
 returns-8 : tie.Need-returns-8
-returns-8 c r e = ap (λ (p : Place). record { answer = Answer.Taken; place = p }) (c .before .before .before .before .before .before .before .before .before .before .freshest .ensures) ∙ given (from-7 c) _ (past-7 c _ takes) r e
+returns-8 c r e = ap (λ (x : Top). record { answer = Answer.Taken; place = x .place }) (c .before .before .before .before .before .before .before .before .before .before .freshest .ensures) ∙ given (from-7 c) _ (past-7 c _ takes) r e
 
 pub judge-propose-spec : {M : Type 1} → statement M
 judge-propose-spec =
@@ -159,7 +156,6 @@ judge-propose-spec =
     refused-requires-3
     returns-3
     freshest-requires
-    at-requires
     refused-requires-4
     returns-4
     rem-if5

@@ -11,7 +11,7 @@ use Rattle.rules.proofs.Downward.{among-here, among-next, among-not, ne
 use Rattle.rules.proofs.chains.descends.Reads as descends
 use Rattle.rules.proofs.chains.descends.Kinds as descends-kinds
 use Rattle.rules.proofs.chains.+descends.Lts-descends as descends-lts
-use Rattle.rules.proofs.columns.lower_at.Reads as lower-at-reads
+use Rattle.rules.proofs.lookups.lower_at.Reads as lower-at-reads
 use Rattle.rules.proofs.chains.+descends.{statement}
 use Rattle.rules.proofs.chains.+descends.Tie.{close}
 

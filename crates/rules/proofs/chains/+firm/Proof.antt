@@ -11,8 +11,8 @@ use Rattle.rules.proofs.Downward.{next-below, firm-down, firm-not, firm
 use Rattle.rules.proofs.chains.firm.Reads as firm
 use Rattle.rules.proofs.chains.firm.Kinds as firm-kinds
 use Rattle.rules.proofs.chains.+firm.Lts-firm as firm-lts
-use Rattle.rules.proofs.columns.lower_at.Reads as lower-at-reads
-use Rattle.rules.proofs.columns.mark_at.Reads as mark-at-reads
+use Rattle.rules.proofs.lookups.lower_at.Reads as lower-at-reads
+use Rattle.rules.proofs.lookups.mark_at.Reads as mark-at-reads
 use Rattle.rules.proofs.chains.+firm.{statement}
 use Rattle.rules.proofs.chains.+firm.Tie.{close}
 

@@ -14,8 +14,8 @@ use Rattle.rules.proofs.chains.last_normal.Reads as last-normal
 use Rattle.rules.proofs.chains.last_normal.Kinds as last-normal-kinds
 use Rattle.rules.proofs.chains.+last_normal.Lts-last_normal as last-normal-lts
 use Rattle.rules.proofs.chains.is_next.Reads as is-next-reads
-use Rattle.rules.proofs.columns.epoch_at.Reads as epoch-at-reads
-use Rattle.rules.proofs.columns.lower_at.Reads as lower-at-reads
+use Rattle.rules.proofs.lookups.epoch_at.Reads as epoch-at-reads
+use Rattle.rules.proofs.lookups.lower_at.Reads as lower-at-reads
 use Rattle.rules.proofs.chains.+last_normal.{statement}
 use Rattle.rules.proofs.chains.+last_normal.Tie.{close}
 

@@ -1,18 +1,8 @@
 -- All that the steps need, of the columns. Assumes nothing.
-use mathlib.Core.Path.{_≡_}
 use borrow.Author.Needs.{needs}
-use lib.ListN.{length}
-use Rattle.table.proofs.Laws.{length-unmap}
-use Rattle.rules.specs.Columns.{places}
-use Rattle.rules.proofs.Shown.{standing-shown}
+use Rattle.rules.proofs.Shown.{standing-made}
 use Rattle.rules.proofs.steps.standing.Statement.{statement}
 use Rattle.rules.proofs.steps.standing.Tie as tie
-
-held : (c : tie.Start) → length (c .args .s .blocks) ≡ places
-held c = search length-unmap
-
-columns-of-requires : tie.Need-columns-of-requires
-columns-of-requires c κs = search needs
 
 freshest-of-requires : tie.Need-freshest-of-requires
 freshest-of-requires c κs = search needs
@@ -40,18 +30,15 @@ returns c =
     let d = c .before .before .before in
     let k = d .before .before .before in
     let e = k .before in
-    let l = e .before .before .before .before in
+    let l = e .before .before .before in
     let n = l .before .before .before in
     let f = n .before .before .before .before in
-    let z = f .before .before .before .before .before in
-    let s = z .before in
-    standing-shown (s .args .s) (held s) _ (z .columns-of .ensures) _ _ _ _ _ _ _ (f .freshest-of .ensures) (n .last-normal .ensures) (l .lower-at .ensures) (e .epoch-at .ensures) (k .clock-of .ensures) (d .descends .ensures) (c .descends2 .ensures)
+    standing-made _ _ _ _ _ _ _ _ _ _ _ _ (f .freshest-of .ensures) (n .last-normal .ensures) (l .lower-at .ensures) (e .epoch-at .ensures) (k .clock-of .ensures) (d .descends .ensures) (c .descends2 .ensures)
 
 pub standing-spec : {M : Type 1} → statement M
 standing-spec =
     tie.close
     (tie.spec
-    columns-of-requires
     freshest-of-requires
     last-normal-requires
     lower-at-requires

@@ -2,8 +2,8 @@
 use Prim.Native.Nat.{ℕ}
 use mathlib.Core.Path.{ap}
 use borrow.Author.Needs.{needs}
-use Rattle.rules.proofs.columns.epoch_at.Statement.{statement}
-use Rattle.rules.proofs.columns.epoch_at.Tie as tie
+use Rattle.rules.proofs.lookups.epoch_at.Statement.{statement}
+use Rattle.rules.proofs.lookups.epoch_at.Tie as tie
 
 number-at-requires : tie.Need-number-at-requires
 number-at-requires c κs = search needs

@@ -2,8 +2,8 @@
 use native.Mathlib.Omega.{arith}
 use borrow.Author.Needs.{needs}
 use Rattle.rules.proofs.Cells.{cell-in, cell-past}
-use Rattle.rules.proofs.columns.number_at.Statement.{statement}
-use Rattle.rules.proofs.columns.number_at.Tie as tie
+use Rattle.rules.proofs.lookups.number_at.Statement.{statement}
+use Rattle.rules.proofs.lookups.number_at.Tie as tie
 
 element-copy-out-result : tie.Need-element-copy-out-result
 element-copy-out-result c = search needs

@@ -4,8 +4,8 @@ use mathlib.Core.Path.{ap, sym, _∙_}
 use native.Mathlib.Omega.{arith}
 use borrow.Author.Needs.{needs}
 use Rattle.pala.proofs.Falls.{lower-is, lower-not}
-use Rattle.rules.proofs.columns.lower_at.Statement.{statement}
-use Rattle.rules.proofs.columns.lower_at.Tie as tie
+use Rattle.rules.proofs.lookups.lower_at.Statement.{statement}
+use Rattle.rules.proofs.lookups.lower_at.Tie as tie
 
 number-at-requires : tie.Need-number-at-requires
 number-at-requires c κs = search needs
