@@ -10,7 +10,7 @@ ghost use Prim.Native.Nat.{_*_, _<_, _≤_};
 ghost use mathlib.Core.Path.{_≡_};
 ghost use mathlib.Core.Bool.{true, false};
 ghost use lib.ListN.{getD, length};
-ghost use Rattle.table.specs.Rows.{capacity};
+ghost use Rattle.table.specs.Rows.{capacity, nameBytes};
 ghost use Rattle.table.specs.Scan.{allBelow};
 ghost use Rattle.pala.specs.Lists.{finalNames, joined};
 ghost use Rattle.pala.specs.Run.{fullList};
@@ -91,7 +91,7 @@ pub fn agree(lists: &[u8], counts: [u32; 8], honest: [bool; 8]) -> bool
 // Writes the final list of gateway i, whose state is s; how many names it has.
 pub fn list(lists: &mut [u8], i: usize, s: State) -> u32
     requires { ⌜ (length (now lists) ≡ listsBytes) × (i < 8) × (wellShaped s ≡ true) ⌝ }
-    ensures { λ r. ⌜ (r ≡ length (finalNames s)) × (r ≤ capacity) × (now (lists .exit) ≡ written (now (lists .entry)) (fullList * i) (joined (finalNames s))) ⌝ }
+    ensures { λ r. ⌜ (r ≡ length (finalNames s)) × (r ≤ capacity) × (now (lists .exit) ≡ written (now (lists .entry)) (fullList * i) (joined (finalNames s))) × (length (joined (finalNames s)) ≡ nameBytes * r) ⌝ }
 {
     let from = LIST_BYTES * i;
     let listing = final_list_shaped(s, &mut lists[from..from + LIST_BYTES]);

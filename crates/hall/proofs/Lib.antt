@@ -1,0 +1,10 @@
+-- What the proofs of this crate cite.
+-- scans that stop early, and parts of lent bytes
+pub mod Parts
+-- one gateway's state moved, and what a hall's shape tells
+pub mod Seated
+-- a final list written into its room, and whether those that stand there agree
+pub mod Listing
+pub mod Agreeing
+-- a head
+pub mod Fresh
