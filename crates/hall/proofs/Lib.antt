@@ -8,3 +8,14 @@ pub mod Listing
 pub mod Agreeing
 -- a head
 pub mod Fresh
+-- the lengths of names and payloads
+pub mod Lengths
+-- a row of the book read, and written
+pub mod Rows
+-- the book filled
+pub mod Filling
+-- what is read off it
+pub mod Pages
+-- what a taken record changes in it
+pub mod Touches
+pub mod Entering

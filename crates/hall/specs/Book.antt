@@ -1,15 +1,17 @@
 -- The blocks of every honest table in lent bytes: a row of 96 for each place of each gateway.
 use Prim.Native.Nat.{ℕ, _+_, _-_, _*_, _≤_, _<_}
 use mathlib.Core.Path.{_≡_}
-use mathlib.Core.Bool.{Bool, not, _&&_, _||_}
+use mathlib.Core.Bool.{Bool, true, not, _&&_, _||_}
 use mathlib.Core.List.{List}
+use mathlib.Core.Logic.{_⊎_}
 use lib.Dec.{eqb, leb}
 use lib.ListN.{length, take, drop, replicate}
 use Rattle.table.specs.declared.Block.{Block}
+use Rattle.table.specs.declared.State.{State}
 use Rattle.table.specs.Scan.{pick}
 use Rattle.table.specs.Bytes.{same}
-use Rattle.table.specs.Rows.{capacity, at, hasVoter}
-use Rattle.pala.specs.Record.{recordBytes, kindOf, senderOf, nameOf, message, proposalHeard, proposeNow, castNow}
+use Rattle.table.specs.Rows.{capacity, nameBytes, payloadBytes, rows, at, hasVoter}
+use Rattle.pala.specs.Record.{recordBytes, kindOf, senderOf, nameOf, message, proposalHeard, voteHeard, proposeNow, castNow}
 use Rattle.pala.specs.Rules.{epochAt, parentOf}
 use Rattle.accord.specs.declared.Hall.{Hall}
 use Rattle.accord.specs.Head.{mostGateways, gateway, honestIn}
@@ -36,6 +38,12 @@ unfolding message pick hasVoter at epochAt parentOf
 blockRow t i p =
     message proposalHeard (pick (hasVoter (at t p) i) 1 0) (epochAt t p) (at t p .name) (at t (parentOf t p) .name) (at t p .payload)
 
+-- gateway i's rows hold the blocks of s, and every other row is as it was
+pub record Paged (before : List ℕ) (i : ℕ) (s : State) (book : List ℕ) : Type 0 where
+  pub long : length book ≡ bookBytes
+  pub done : (p : ℕ) → 0 < p → p ≤ s .count → rowAt book (rowOf i p) ≡ blockRow (rows s) i p
+  pub kept : (e : ℕ) → (e < capacity * i) ⊎ (capacity * i + s .count ≤ e) → rowAt book e ≡ rowAt before e
+
 -- a place that isn't held, or of a gateway that isn't honest
 unfoldable pub noRow : List ℕ
 noRow = replicate recordBytes 0
@@ -44,9 +52,15 @@ unfoldable pub heldRow : Hall → ℕ → ℕ → List ℕ
 unfolding pick honestIn gateway blockRow tableOf noRow
 heldRow h i p = pick (honestIn h i && leb p (gateway h i .count)) (blockRow (tableOf h i) i p) noRow
 
+-- "32-byte name", "24 opaque payload bytes"
+pub record Whole (b : Block) : Type 0 where
+  pub name : length (b .name) ≡ nameBytes
+  pub payload : length (b .payload) ≡ payloadBytes
+
 -- the book holds what the honest tables hold
 pub record Pages (h : Hall) (book : List ℕ) : Type 0 where
   pub long : length book ≡ bookBytes
+  pub sized : (i p : ℕ) → honestIn h i ≡ true → Whole (at (tableOf h i) p)
   pub held : (i p : ℕ) → i < mostGateways → 1 ≤ p → p ≤ capacity → rowAt book (rowOf i p) ≡ heldRow h i p
 
 -- a row that holds a block of that name
@@ -73,7 +87,7 @@ unfoldable pub clashIn : List ℕ → List ℕ → Bool
 unfolding anyBelow rowOther
 clashIn book x = anyBelow bookRows (λ e. rowOther (rowAt book e) x)
 
--- the place whose row a taken record changes, by its kind, the place it was decided for and the count after it; 0 where it changes none
+-- the place whose row a taken record may change, by its kind, the place it was decided for and the count after it; 0 where it changes none
 unfoldable pub touched : ℕ → ℕ → ℕ → ℕ
 unfolding pick
-touched kind place held = pick (eqb kind castNow) place (pick (eqb kind proposalHeard || eqb kind proposeNow) held 0)
+touched kind place held = pick (eqb kind voteHeard || eqb kind castNow) place (pick (eqb kind proposalHeard || eqb kind proposeNow) held 0)

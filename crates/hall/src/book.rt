@@ -12,10 +12,8 @@ use table::CAPACITY;
 use table::NodeNo;
 use table::State;
 use table::voters::has_voter;
-ghost use Prim.Native.Nat.{ℕ, suc, _+_, _*_, _<_, _≤_};
+ghost use Prim.Native.Nat.{_*_, _<_, _≤_};
 ghost use mathlib.Core.Path.{_≡_};
-ghost use mathlib.Core.Bool.{true};
-ghost use mathlib.Core.Logic.{_⊎_};
 ghost use lib.Dec.{ltb};
 ghost use lib.ListN.{length, replicate};
 ghost use Rattle.table.specs.Bytes.{same};
@@ -24,7 +22,7 @@ ghost use Rattle.table.specs.Scan.{pick};
 ghost use Rattle.pala.specs.Record.{message, proposalHeard, recordBytes};
 ghost use Rattle.lines.specs.Text.{written};
 ghost use Rattle.hall.specs.Kept.{Kept};
-ghost use Rattle.hall.specs.Book.{Pages, blockRow, bookBytes, clashIn, rowAt, rowOf, rowOther, rowShows, shownIn};
+ghost use Rattle.hall.specs.Book.{Paged, Pages, blockRow, bookBytes, clashIn, rowOf, rowOther, rowShows, shownIn};
 
 // The rows of one gateway, and of all.
 const PAGE_ROWS: usize = CAPACITY as usize;
@@ -140,22 +138,21 @@ fn enter(book: &mut [u8], i: usize, p: u32, b: Block, parent: [u8; 32])
     requires { ⌜ (length (now book) ≡ bookBytes) × (i < 8) × (0 < p) × (p ≤ capacity) ⌝ }
     ensures { λ _. ⌜ now (book .exit) ≡ written (now (book .entry)) (recordBytes * rowOf i p) (message proposalHeard (pick (hasVoter b i) 1 0) (b .epoch .0) (b .name) parent (b .payload)) ⌝ }
 {
-    let own = has_voter(b, NodeNo(i as u32));
+    let mark = mark_of(has_voter(b, NodeNo(i as u32)));
     let name = b.name;
     let payload = b.payload;
+    let epoch = b.epoch;
+    let f = Fields {
+        name: name,
+        parent: parent,
+        payload: payload,
+        epoch: epoch,
+        sender: NodeNo(mark),
+        kind: PROPOSAL_HEARD,
+        clean: true,
+    };
     let at = RECORD_BYTES * (PAGE_ROWS * i + p as usize - 1);
-    write(
-        &mut book[at..at + RECORD_BYTES],
-        Fields {
-            name: name,
-            parent: parent,
-            payload: payload,
-            epoch: b.epoch,
-            sender: NodeNo(mark_of(own)),
-            kind: PROPOSAL_HEARD,
-            clean: true,
-        },
-    );
+    write(&mut book[at..at + RECORD_BYTES], f);
 }
 
 // The row of a block's parent; one that isn't lower counts as the genesis.
@@ -183,7 +180,7 @@ pub fn enter_place(book: &mut [u8], i: usize, s: State, p: u32)
 // Writes the rows of all blocks of gateway i, whose state is s.
 fn enter_all(book: &mut [u8], i: usize, s: State)
     requires { ⌜ (length (now book) ≡ bookBytes) × (i < 8) × (s .count ≤ capacity) ⌝ }
-    ensures { λ _. ⌜ (length (now (book .exit)) ≡ bookBytes) × ((p : ℕ) → 0 < p → p ≤ s .count → rowAt (now (book .exit)) (rowOf i p) ≡ blockRow (rows s) i p) × ((e : ℕ) → (e < capacity * i) ⊎ (capacity * i + s .count ≤ e) → rowAt (now (book .exit)) e ≡ rowAt (now (book .entry)) e) ⌝ }
+    ensures { λ _. ⌜ Paged (now (book .entry)) i s (now (book .exit)) ⌝ }
 {
     let count = s.count;
     let mut p: u32 = 1;
