@@ -9,8 +9,8 @@ use native.Mathlib.Numerals.{add-one}
 use native.Mathlib.Omega.{arith}
 use borrow.Author.Tests.{ltb-true, eq-eqb, ne-eqb}
 use lib.Dec.{eqb, ltb}
-use lib.ListN.{length, getD, take, drop, replicate, length-append, length-take, length-drop, length-replicate, getD-replicate, List·getD-append}
-use lib.Seq.{ext-getD, getD-take, getD-drop, getD-append-add, length-take-le, take-all, drop-drop}
+use lib.ListN.{length, getD, take, drop, replicate, length-take, length-drop, length-replicate, getD-replicate}
+use lib.Seq.{ext-getD, getD-take, getD-drop, take-all, drop-drop}
 use Rattle.table.specs.declared.Block.{Block}
 use Rattle.table.specs.declared.State.{State}
 use Rattle.table.specs.Scan.{pick}
@@ -24,6 +24,7 @@ use Rattle.lines.specs.Text.{written}
 use Rattle.lines.proofs.Laws.{length-written}
 use Rattle.accord.specs.Rulings.{anyBelow}
 use Rattle.accord.proofs.Scans.{any-none}
+use Rattle.hall.proofs.Parts.{part-here, part-before, part-after}
 use Rattle.hall.specs.Book.{rowAt, blockRow, noRow, rowNamed, rowShows, rowOther}
 
 -- ---- searches
@@ -172,37 +173,6 @@ module _ (book : List ℕ) (from : ℕ) where
       ∙ pick-yes (eqb (length (take k (drop from book))) recordBytes) _ _ (eq-eqb _ _ size)
       ∙ ap (λ (x : ℕ). message proposalHeard x e name parent payload) (ap (λ (x : ℕ). x % 256) mark ∙ mark-byte own))
 
-  module _ (bytes : List ℕ) (fits : from + length bytes ≤ length book) where
-    front : length (take from book) ≡ from
-    front = length-take-le from book (omega arith)
-
-    -- a byte before them, one of them, one after them
-    byte-before : (k : ℕ) → k < from → getD (written book from bytes) k 0 ≡ getD book k 0
-    unfolding written
-    byte-before k l =
-        ap (λ (x : List ℕ). getD x k 0) (append-assoc (take from book) bytes (drop (from + length bytes) book))
-        ∙ List·getD-append (take from book) (bytes ++ drop (from + length bytes) book) 0 k (omega (arith, front))
-        ∙ getD-take from book k 0 l
-
-    byte-in : (k : ℕ) → k < length bytes → getD (written book from bytes) (from + k) 0 ≡ getD bytes k 0
-    unfolding written
-    byte-in k l =
-        ap (λ (x : List ℕ). getD x (from + k) 0) (append-assoc (take from book) bytes (drop (from + length bytes) book))
-        ∙ ap (λ (n : ℕ). getD (take from book ++ (bytes ++ drop (from + length bytes) book)) (n + k) 0) (sym front)
-        ∙ getD-append-add (take from book) (bytes ++ drop (from + length bytes) book) k 0
-        ∙ List·getD-append bytes (drop (from + length bytes) book) 0 k l
-
-    byte-after : (k : ℕ) → from + length bytes ≤ k → getD (written book from bytes) k 0 ≡ getD book k 0
-    unfolding written
-    byte-after k l =
-        let past : length (take from book ++ bytes) ≡ from + length bytes = omega (arith, length-append (take from book) bytes, front) in
-        let m = k - (from + length bytes) in
-        let here : from + length bytes + m ≡ k = omega arith in
-        ap (λ (n : ℕ). getD (take from book ++ bytes ++ drop (from + length bytes) book) n 0) (omega arith)
-        ∙ getD-append-add (take from book ++ bytes) (drop (from + length bytes) book) m 0
-        ∙ getD-drop (from + length bytes) book m 0
-        ∙ ap (λ (n : ℕ). getD book n 0) here
-
 -- a row of 96 bytes written at row e
 module _ (book bytes : List ℕ) (e : ℕ) (whole : length bytes ≡ recordBytes) (fits : recordBytes * e + recordBytes ≤ length book) where
   abbrev after : List ℕ
@@ -216,23 +186,12 @@ module _ (book bytes : List ℕ) (e : ℕ) (whole : length bytes ≡ recordBytes
 
   -- that row is those bytes
   pub row-same : rowAt after e ≡ bytes
-  row-same =
-      ext-getD 0 (rowAt after e) bytes (row-long after e (omega (arith, row-length)) ∙ sym whole)
-      (λ k l.
-      let low : k < recordBytes = omega (arith, row-long after e (omega (arith, row-length))) in
-      row-byte after e k low ∙ byte-in book (recordBytes * e) bytes within k (omega arith))
+  row-same = ap (λ (k : ℕ). take k (drop (recordBytes * e) after)) (sym whole) ∙ part-here book (recordBytes * e) bytes within
 
   -- every other is as it was
-  byte-other : (f k : ℕ) → f ≢ e → k < recordBytes → getD after (recordBytes * f + k) 0 ≡ getD book (recordBytes * f + k) 0
-  byte-other f k d l =
-      elim (decLt f e) [
-        | yes m ↦ byte-before book (recordBytes * e) bytes within (recordBytes * f + k) (omega arith)
-        | no m ↦ byte-after book (recordBytes * e) bytes within (recordBytes * f + k) (omega arith)
-      ]
-
   pub row-other : (f : ℕ) → f ≢ e → rowAt after f ≡ rowAt book f
   row-other f d =
-      ext-getD 0 (rowAt after f) (rowAt book f) (row-size after f ∙ ap (λ (n : ℕ). min recordBytes (n - recordBytes * f)) row-length ∙ sym (row-size book f))
-      (λ k l.
-      let low : k < recordBytes = omega (arith, row-size after f) in
-      row-byte after f k low ∙ byte-other f k d low ∙ sym (row-byte book f k low))
+      elim (decLt f e) [
+        | yes m ↦ part-before book (recordBytes * e) bytes within (recordBytes * f) recordBytes (omega arith)
+        | no m ↦ ap (take recordBytes) (part-after book (recordBytes * e) bytes within (recordBytes * f) (omega arith))
+      ]

@@ -18,7 +18,6 @@ use Rattle.pala.specs.Rules.{epochAt, lower, fall, among, line, parentOf, notar
 use Rattle.pala.specs.Steps.{freshEpoch, forward}
 use Rattle.rules.specs.declared.columns.Columns.{Columns}
 use Rattle.rules.specs.Columns.{places, upTo, cell, numberAt, markAt, upOf, markOf, columns, firmBy, freshestBy, lastNormalBy, votableBy}
-use Rattle.rules.specs.declared.Standing.{Standing}
 use Rattle.rules.specs.declared.Top.{Top}
 use Rattle.rules.specs.Standing.{standing, standingBy}
 use Rattle.rules.proofs.Cells.{cell-upTo, made, made-end, made-start, made-step}

@@ -6,12 +6,12 @@ use borrow.Author.Needs.{needs}
 use lib.ListN.{length}
 use Rattle.table.specs.Rows.{capacity}
 use Rattle.table.proofs.Laws.{length-unmap}
-use Rattle.pala.specs.Effects.{effect, put}
+use Rattle.pala.specs.Effects.{put}
 use Rattle.pala.specs.Steps.{freshEpoch, settled}
 use Rattle.pala.proofs.Shapes.{shaped-count}
 use Rattle.rules.specs.declared.Standing.{Standing}
 use Rattle.rules.specs.Standing.{standing}
-use Rattle.node.specs.Done.{done, Does}
+use Rattle.node.specs.Done.{done}
 use Rattle.node.proofs.Calls.{granted-fresh}
 use Rattle.node.proofs.Settles.{done-rows, settles, stands}
 use Rattle.node.proofs.Stores.{row-held}
