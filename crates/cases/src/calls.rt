@@ -1,34 +1,22 @@
 // A call of `node::step`, and what it hands back.
 
 use crate::records::RECORD_BYTES;
-use crate::records::clock;
 use crate::same::same_state;
 use node::answers::number_of;
 use node::start;
 use node::step;
-use table::Epoch;
-use table::NodeNo;
 use table::State;
 
 // "0 is taken."
 pub const TAKEN: u32 = 0;
-// The rows whose answer is asked for by its number.
-pub const STATE: u32 = 1;
-
-pub const TORN: u32 = 2;
-
-pub const LENGTH: u32 = 3;
-
-pub const KIND: u32 = 4;
-
-pub const FILLER: u32 = 5;
-
-pub const SENDER: u32 = 6;
-
-pub const SETUP: u32 = 15;
-
 // What every byte of an out buffer is before a call.
 pub const UNTOUCHED: u8 = 0xEE;
+// "The 96-byte record", and as long an out buffer.
+pub const WHOLE: u32 = RECORD_BYTES as u32;
+// The longest record and out buffer tried.
+const LONG: usize = 200;
+
+const LENGTHS: usize = LONG + 1;
 
 // The answer's number, the state and the out buffer after a call.
 pub struct Outcome {
@@ -60,43 +48,43 @@ pub fn next(s: State, rec: [u8; 96]) -> State {
     call(s, rec).state
 }
 
-// The state that the same clock from 1, 2 and 3 leaves, a quorum of 4.
-pub fn clocked(s: State, epoch: Epoch) -> State {
-    let first = next(s, clock(NodeNo(1), epoch));
-    let second = next(first, clock(NodeNo(2), epoch));
-    next(second, clock(NodeNo(3), epoch))
-}
-
 // Is every byte of a slice this one.
 pub fn throughout(bytes: &[u8], byte: u8) -> bool {
-    let mut i: usize = 0;
-    while i < bytes.len() {
-        if bytes[i] != byte {
-            return false;
-        }
-        i += 1;
+    let mut all = true;
+    for i in 0..bytes.len() {
+        all = all & (bytes[i] == byte);
     }
-    true
+    all
 }
 
-// "state and out buffer come back the same"
-pub fn handed_back(s: State, got: Outcome) -> bool {
-    let state = got.state;
-    let out = got.out;
-    if !throughout(&out, UNTOUCHED) {
-        return false;
-    }
-    same_state(s, state)
+// "state and out buffer come back the same", where the answer isn't 0.
+fn answered(s: State, rec: &[u8], out: &mut [u8], wanted: u32) -> bool {
+    let reply = step(s, rec, out);
+    let answer = reply.answer;
+    let state = reply.state;
+    let back = throughout(out, UNTOUCHED) & same_state(s, state);
+    (number_of(answer) == wanted) & (back | (wanted == TAKEN))
 }
 
-// Does a record get this answer and, where it is refused, come state and out buffer back the same.
+// The record with zeros behind it.
+fn extended(rec: [u8; 96]) -> [u8; LONG] {
+    let mut long = [0; LONG];
+    for i in 0..RECORD_BYTES {
+        long[i] = rec[i];
+    }
+    long
+}
+
+// A call with so many bytes of the record and of an out buffer: is it answered so.
+pub fn answered_of(s: State, rec: [u8; 96], length: u32, room: u32, wanted: u32) -> bool {
+    let a = (length as usize) % LENGTHS;
+    let b = (room as usize) % LENGTHS;
+    let long = extended(rec);
+    let mut out = [UNTOUCHED; LONG];
+    answered(s, &long[0..a], &mut out[0..b], wanted)
+}
+
+// A call with a record and an out buffer of 96 bytes: is it answered so.
 pub fn answers(s: State, rec: [u8; 96], wanted: u32) -> bool {
-    let got = call(s, rec);
-    if got.answer != wanted {
-        return false;
-    }
-    if wanted == TAKEN {
-        return true;
-    }
-    handed_back(s, got)
+    answered_of(s, rec, WHOLE, WHOLE, wanted)
 }

@@ -1,74 +1,60 @@
 // A record in 01's words, told from its bytes.
 
-use crate::records::CAST;
-use crate::records::CLOCK;
 use crate::records::KIND_AT;
+use crate::records::MINUTE;
 use crate::records::NAME_AT;
-use crate::records::NO_PAYLOAD;
 use crate::records::PARENT_AT;
 use crate::records::PAYLOAD_AT;
-use crate::records::PROPOSAL;
-use crate::records::PROPOSE;
 use crate::records::SENDER_AT;
-use crate::records::VOTE;
 use crate::records::epoch_of;
 use crate::records::rebuilt;
+use crate::say::echo;
+use crate::say::name;
+use crate::say::number;
 use crate::say::text;
-use crate::say::text_byte;
-use crate::say::text_name;
 use crate::say::text_number;
+
+// "Payloads are zero, but .."
+const NO_PAYLOAD: u8 = 0;
 
 // A payload that isn't zero.
 fn payload(byte: u8) {
     if byte != NO_PAYLOAD {
-        text_byte(b", payload ", byte);
+        text_number(b", payload ", byte as u32);
     }
 }
 
-// `proposal B from 2 (epoch 2, on A)`
-fn proposal(rec: [u8; 96]) {
-    text_name(b"proposal ", rec[NAME_AT]);
-    text_byte(b" from ", rec[SENDER_AT]);
-    text_number(b" (epoch ", epoch_of(rec).0);
-    text_name(b", on ", rec[PARENT_AT]);
-    payload(rec[PAYLOAD_AT]);
-    text(b")");
+// A field by its capital; any other byte as it stands.
+fn word(rec: [u8; 96], byte: u8) {
+    match byte {
+        b'S' => number(rec[SENDER_AT] as u32),
+        b'E' => number(epoch_of(rec)),
+        b'N' => name(rec[NAME_AT]),
+        b'P' => name(rec[PARENT_AT]),
+        b'L' => payload(rec[PAYLOAD_AT]),
+        _ => echo(byte),
+    }
 }
 
-// `vote B from 2`
-fn vote(rec: [u8; 96]) {
-    text_name(b"vote ", rec[NAME_AT]);
-    text_byte(b" from ", rec[SENDER_AT]);
-}
-
-// `clock 5 from 1`
-fn clock(rec: [u8; 96]) {
-    text_number(b"clock ", epoch_of(rec).0);
-    text_byte(b" from ", rec[SENDER_AT]);
-}
-
-// `propose A, payload 7`
-fn propose(rec: [u8; 96]) {
-    text_name(b"propose ", rec[NAME_AT]);
-    payload(rec[PAYLOAD_AT]);
-}
-
-// A record by its kind; only good kinds are described.
-fn by_kind(rec: [u8; 96]) {
+// The words of its kind, which stand behind that number.
+fn words(rec: [u8; 96]) {
+    let all =
+        b"\x01proposal N from S (epoch E, on PL)\x02vote N from S\x03clock E from S\x04propose NL\x05cast\x06minute";
     let kind = rec[KIND_AT];
-    match kind {
-        PROPOSAL => proposal(rec),
-        VOTE => vote(rec),
-        CLOCK => clock(rec),
-        PROPOSE => propose(rec),
-        CAST => text(b"cast"),
-        _ => text(b"minute"),
+    let mut of: u8 = 0;
+    for i in 0..all.len() {
+        let byte = all[i];
+        if byte <= MINUTE {
+            of = byte;
+        } else if of == kind {
+            word(rec, byte);
+        }
     }
 }
 
 // A record in words; where some byte is not what the words say, that too.
 pub fn describe(rec: [u8; 96]) {
-    by_kind(rec);
+    words(rec);
     let told = rebuilt(rec);
     if !check::same(&rec, &told) {
         text(b" and other bytes");

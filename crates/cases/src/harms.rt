@@ -5,179 +5,100 @@ use table::CAPACITY;
 use table::Epoch;
 use table::MOST_NODES;
 use table::NAME_BYTES;
-use table::NodeNo;
 use table::PAYLOAD_BYTES;
-use table::Place;
 use table::State;
 
-// What is changed; `at` and `to` are the numbers that `harmed` takes.
-pub enum Harm {
-    // Field `at` of those beside table and clocks is `to`.
-    Field,
-    // The clock kept from `to` is another.
-    Clock,
-    // The name at `at` is all zero.
-    NoName,
-    // The name at `at` is the one at `to`.
-    SameName,
-    // The name at `at` is the one at place 1 but for byte `to`.
-    NearName,
-    // The parent of the block at `at` is `to`.
-    Parent,
-    // The epoch of the block at `at` is `to`.
-    Epoch,
-    // Cell `to` of the row at `at` is another.
-    Cell,
-}
+// Field `at` of those beside table and clocks is `to`.
+const FIELD: u8 = b'F';
+// The clock kept from `to` is another.
+const CLOCK: u8 = b'C';
+// The name at `at` is the one at `to`; all zero where that is 0.
+const NAME: u8 = b'N';
+// The name at `at` is the one at place 1 but for byte `to`.
+const ALMOST: u8 = b'A';
+// Byte `to` of the name at `at` is another.
+const TURNED: u8 = b'T';
+// Byte `to` of the payload at `at` is another.
+const PAYLOAD: u8 = b'P';
+// Voter `to` at `at` is one more, or one less.
+const VOTER: u8 = b'V';
+// The block at `at` is on the one at `to`.
+const ON: u8 = b'O';
+// The epoch of the block at `at` is `to`.
+const EPOCH: u8 = b'E';
 
-// The cells of a row: name, payload, voters, epoch, parent.
-pub const PAYLOAD_CELLS: u32 = NAME_BYTES;
-
-pub const VOTER_CELLS: u32 = PAYLOAD_CELLS + PAYLOAD_BYTES;
-
-pub const EPOCH_CELL: u32 = VOTER_CELLS + MOST_NODES;
-
-pub const PARENT_CELL: u32 = EPOCH_CELL + 1;
-
-// The place whose name `NearName` copies.
+// The place whose name `ALMOST` copies.
 const FIRST_PLACE: u32 = 1;
+// The genesis's row and the 64 behind it.
+const ROWS: u32 = CAPACITY + 1;
 
-// The fields beside table and clocks, in the order of `table::State`.
-pub const N: u32 = 0;
+// The fields beside table and clocks, in the order of `table::State`; the last is `torn`.
+const N: u32 = 0;
 
-pub const OWN: u32 = 1;
+const OWN: u32 = 1;
 
-pub const LOCAL: u32 = 2;
+const LOCAL: u32 = 2;
 
-pub const BAR: u32 = 3;
+const BAR: u32 = 3;
 
-pub const VOTED: u32 = 4;
+const VOTED: u32 = 4;
 
-pub const PROPOSED: u32 = 5;
+const PROPOSED: u32 = 5;
 
-pub const COUNT: u32 = 6;
+const COUNT: u32 = 6;
 
-pub const KEPT: u32 = 7;
-
-pub const TORN: u32 = 8;
+const KEPT: u32 = 7;
 
 // Another byte.
-fn other_byte(x: u8) -> u8 {
-    if x == 0 {
-        return 1;
-    }
-    0
+fn other(x: u8) -> u8 {
+    (x == 0) as u8
 }
 
-// Another number.
-fn other(x: u32) -> u32 {
-    if x == 0 {
-        return 1;
-    }
-    0
+// The name at a place; past the table's end its places start over, and so with all that follow.
+fn name_at(rows: [Block; 65], at: u32) -> [u8; 32] {
+    let i = (at % ROWS) as usize;
+    let b = rows[i];
+    b.name
 }
 
-// The row at a place; past the table's end, the genesis's.
-fn row(s: State, at: u32) -> Block {
-    if CAPACITY < at {
-        return s.blocks[0];
-    }
-    let i = at as usize;
-    s.blocks[i]
-}
-
-// Another row at a place; past the table's end, nothing changes.
-fn with_row(s: State, at: u32, b: Block) -> State {
-    let mut t = s;
-    if CAPACITY < at {
-        return t;
-    }
-    let i = at as usize;
-    t.blocks[i] = b;
-    t
-}
-
-// A row of another name.
-fn with_name(b: Block, name: [u8; 32]) -> Block {
-    let mut c = b;
-    c.name = name;
-    c
-}
-
-// The name with one byte another; past its end, the name.
+// The name with one byte another.
 fn near(name: [u8; 32], k: u32) -> [u8; 32] {
     let mut made = name;
-    if NAME_BYTES <= k {
-        return made;
-    }
-    let i = k as usize;
-    made[i] = other_byte(name[i]);
+    let i = (k % NAME_BYTES) as usize;
+    made[i] = other(name[i]);
     made
 }
 
-// A row of another parent.
-fn with_parent(b: Block, p: Place) -> Block {
+// The row with one byte of its payload another.
+fn with_payload(b: Block, k: u32) -> Block {
     let mut c = b;
-    c.parent = p;
+    let i = (k % PAYLOAD_BYTES) as usize;
+    c.payload[i] = other(b.payload[i]);
     c
 }
 
-// A row of another epoch.
-fn with_epoch(b: Block, e: Epoch) -> Block {
+// The row with a voter more, or one less.
+fn with_voter(b: Block, k: u32) -> Block {
     let mut c = b;
-    c.epoch = e;
-    c
-}
-
-// A row with one byte of its payload another; past the payload's end, the row.
-fn with_payload_turned(b: Block, k: u32) -> Block {
-    let mut c = b;
-    if PAYLOAD_BYTES <= k {
-        return c;
-    }
-    let i = k as usize;
-    c.payload[i] = other_byte(b.payload[i]);
-    c
-}
-
-// A row with a voter more, or one less; past the voters' end, the row.
-fn with_voter_turned(b: Block, k: u32) -> Block {
-    let mut c = b;
-    if MOST_NODES <= k {
-        return c;
-    }
-    let i = k as usize;
+    let i = (k % MOST_NODES) as usize;
     c.voters[i] = !b.voters[i];
     c
 }
 
-// The row with one cell another.
-fn with_cell_turned(b: Block, k: u32) -> Block {
-    let name = b.name;
-    if k < PAYLOAD_CELLS {
-        return with_name(b, near(name, k));
-    }
-    if k < VOTER_CELLS {
-        return with_payload_turned(b, k - PAYLOAD_CELLS);
-    }
-    if k < EPOCH_CELL {
-        return with_voter_turned(b, k - VOTER_CELLS);
-    }
-    if k == EPOCH_CELL {
-        return with_epoch(b, Epoch(other(b.epoch.0)));
-    }
-    with_parent(b, Place(other(b.parent.0)))
+// The clocks with one another.
+fn turned(clocks: [Epoch; 32], k: u32) -> [Epoch; 32] {
+    let mut made = clocks;
+    let i = (k % MOST_NODES) as usize;
+    made[i] = Epoch((clocks[i].0 == 0) as u32);
+    made
 }
 
-// A state with one clock another; past the clocks' end, the state.
-fn with_clock_turned(s: State, k: u32) -> State {
+// The state with one clock another.
+fn with_clock(s: State, k: u32) -> State {
     let mut t = s;
-    if MOST_NODES <= k {
-        return t;
-    }
-    let i = k as usize;
-    let e = Epoch(other(s.clocks[i].0));
-    t.clocks[i] = e;
+    let clocks = s.clocks;
+    let made = turned(clocks, k);
+    t.clocks = made;
     t
 }
 
@@ -198,19 +119,57 @@ pub fn with_field(s: State, field: u32, to: u32) -> State {
     t
 }
 
-// A state with one change.
-pub fn harmed(s: State, harm: Harm, at: u32, to: u32) -> State {
-    let b = row(s, at);
-    let first = row(s, FIRST_PLACE).name;
-    let there = row(s, to).name;
+// A row with one change, but for its name.
+fn harmed_row(b: Block, harm: u8, to: u32) -> Block {
+    let mut c = b;
     match harm {
-        Harm::Field => with_field(s, at, to),
-        Harm::Clock => with_clock_turned(s, to),
-        Harm::NoName => with_row(s, at, with_name(b, [0; NAME_BYTES as usize])),
-        Harm::SameName => with_row(s, at, with_name(b, there)),
-        Harm::NearName => with_row(s, at, with_name(b, near(first, to))),
-        Harm::Parent => with_row(s, at, with_parent(b, Place(to))),
-        Harm::Epoch => with_row(s, at, with_epoch(b, Epoch(to))),
-        Harm::Cell => with_row(s, at, with_cell_turned(b, to)),
+        PAYLOAD => c = with_payload(b, to),
+        VOTER => c = with_voter(b, to),
+        ON => c.parent.0 = to,
+        EPOCH => c.epoch.0 = to,
+        _ => c = b,
+    }
+    c
+}
+
+// The name that a row has then, of its own and of those at `to` and at place 1.
+fn harmed_name(own: [u8; 32], there: [u8; 32], first: [u8; 32], harm: u8, to: u32) -> [u8; 32] {
+    match harm {
+        NAME => there,
+        ALMOST => near(first, to),
+        TURNED => near(own, to),
+        _ => own,
+    }
+}
+
+// A table with one change.
+fn harmed_rows(rows: [Block; 65], harm: u8, at: u32, to: u32) -> [Block; 65] {
+    let there = name_at(rows, to);
+    let first = name_at(rows, FIRST_PLACE);
+    let own = name_at(rows, at);
+    let name = harmed_name(own, there, first, harm, to);
+    let mut made = rows;
+    let i = (at % ROWS) as usize;
+    let mut b = harmed_row(rows[i], harm, to);
+    b.name = name;
+    made[i] = b;
+    made
+}
+
+// A state with one change in its table.
+fn with_rows(s: State, harm: u8, at: u32, to: u32) -> State {
+    let mut t = s;
+    let rows = s.blocks;
+    let made = harmed_rows(rows, harm, at, to);
+    t.blocks = made;
+    t
+}
+
+// A state with one change.
+pub fn harmed(s: State, harm: u8, at: u32, to: u32) -> State {
+    match harm {
+        FIELD => with_field(s, at, to),
+        CLOCK => with_clock(s, to),
+        _ => with_rows(s, harm, at, to),
     }
 }

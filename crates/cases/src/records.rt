@@ -1,7 +1,10 @@
 // "The 96-byte record", built here byte by byte and not by the crate `record`: the cases don't lean on what they test.
 
-use table::Epoch;
-use table::NodeNo;
+use crate::orders::FIRST_KIND;
+use crate::orders::LAST_KIND;
+use crate::orders::NUMBERS;
+use crate::orders::Order;
+use crate::orders::ZERO;
 ghost use Prim.Native.Nat.{_≤_};
 
 // "The 96-byte record"
@@ -11,22 +14,28 @@ pub const KIND_AT: usize = 0;
 
 pub const SENDER_AT: usize = 1;
 
-pub const SPARE_AT: usize = 2;
+const EPOCH_AT: usize = 4;
 
-pub const EPOCH_AT: usize = 4;
+const SECOND_AT: usize = EPOCH_AT + 1;
+
+const THIRD_AT: usize = EPOCH_AT + 2;
+
+const FOURTH_AT: usize = EPOCH_AT + 3;
 
 pub const NAME_AT: usize = 8;
 
 pub const PARENT_AT: usize = 40;
 
 pub const PAYLOAD_AT: usize = 72;
+// Where name and parent name end.
+const NAME_LAST: usize = PARENT_AT - 1;
+
+const PARENT_LAST: usize = PAYLOAD_AT - 1;
 
 // "1 proposal heard, 2 vote heard, 3 clock heard, 4 propose now, 5 cast a vote now, 6 the minute is up"
 pub const PROPOSAL: u8 = 1;
 
 pub const VOTE: u8 = 2;
-
-pub const CLOCK: u8 = 3;
 
 pub const PROPOSE: u8 = 4;
 
@@ -36,34 +45,9 @@ pub const MINUTE: u8 = 6;
 
 // "The all-zero name is the genesis"
 pub const GENESIS: u8 = 0;
-// "A is 32 bytes of 0x0A, B of 0x0B, and so on"
-pub const A: u8 = 0x0A;
 
-pub const B: u8 = 0x0B;
-
-pub const C: u8 = 0x0C;
-
-pub const D: u8 = 0x0D;
-
-pub const E: u8 = 0x0E;
-
-pub const F: u8 = 0x0F;
-// "A', D' and E', whose names are 32 bytes of 0x1A, 0x1D and 0x1E"
-pub const A_PRIME: u8 = 0x1A;
-
-pub const D_PRIME: u8 = 0x1D;
-
-pub const E_PRIME: u8 = 0x1E;
-
-// "Payloads are zero, but 0x01 throughout in A', D' and E'"
-pub const NO_PAYLOAD: u8 = 0;
-
-pub const ONES: u8 = 0x01;
-// A payload of our own proposals.
-pub const SEVENS: u8 = 0x07;
-
-// "Block epochs run from 1 to 4,294,967,294, local epochs from 1 to 4,294,967,295."
-pub const TOP_EPOCH: u32 = 4294967295;
+// `#mark AT TO`: another byte in the record at hand.
+const MARK: u8 = b'm';
 
 // How many values a byte has, and what the third and the fourth byte of an epoch count for.
 const BYTE: u32 = 256;
@@ -72,73 +56,73 @@ const THIRD: u32 = 65536;
 
 const FOURTH: u32 = 16777216;
 
+// The numbers of a record, behind its kind; each of name, parent name and payload is one byte throughout.
+const SENDER: usize = 0;
+
+const EPOCH: usize = 1;
+
+const NAME: usize = 2;
+
+const PARENT: usize = 3;
+
+const PAYLOAD: usize = 4;
+
 // The lowest byte of a number.
 pub fn low_byte(x: u32) -> u8 {
     (x % BYTE) as u8
 }
 
-// The record with the bytes from one index up to another all alike.
-fn filled(rec: [u8; 96], from: usize, end: usize, byte: u8) -> [u8; 96]
-    requires { ⌜ end ≤ 96 ⌝ }
-{
+// "4 to 7 epoch (low byte first)"
+fn epoch_byte(e: u32, at: usize) -> u8 {
+    match at {
+        EPOCH_AT => low_byte(e),
+        SECOND_AT => low_byte(e / BYTE),
+        THIRD_AT => low_byte(e / THIRD),
+        _ => low_byte(e / FOURTH),
+    }
+}
+
+// The byte of a record at an index; "2 and 3 zero".
+fn byte_of(kind: u8, numbers: [u32; NUMBERS], at: usize) -> u8 {
+    match at {
+        KIND_AT => kind,
+        SENDER_AT => low_byte(numbers[SENDER]),
+        EPOCH_AT..=FOURTH_AT => epoch_byte(numbers[EPOCH], at),
+        NAME_AT..=NAME_LAST => low_byte(numbers[NAME]),
+        PARENT_AT..=PARENT_LAST => low_byte(numbers[PARENT]),
+        PAYLOAD_AT..=RECORD_BYTES => low_byte(numbers[PAYLOAD]),
+        _ => 0,
+    }
+}
+
+// A record of any kind.
+pub fn record_of(kind: u8, numbers: [u32; NUMBERS]) -> [u8; 96] {
+    let mut rec = [0; RECORD_BYTES];
+    for i in 0..RECORD_BYTES {
+        rec[i] = byte_of(kind, numbers, i);
+    }
+    rec
+}
+
+// The record with another byte at an index; past its end, the record.
+pub fn with_byte(rec: [u8; 96], at: u32, to: u32) -> [u8; 96] {
     let mut made = rec;
-    for i in from..end {
-        made[i] = byte;
+    let i = at as usize;
+    if i < RECORD_BYTES {
+        made[i] = low_byte(to);
     }
     made
 }
 
-// A record of any kind: each of name, parent name and payload is one byte throughout.
-pub fn record_of(
-    kind: u8,
-    sender: NodeNo,
-    epoch: Epoch,
-    name: u8,
-    parent: u8,
-    payload: u8,
-) -> [u8; 96] {
-    let e = epoch.0;
-    let blank = [0; RECORD_BYTES];
-    let named = filled(blank, NAME_AT, PARENT_AT, name);
-    let placed = filled(named, PARENT_AT, PAYLOAD_AT, parent);
-    let mut rec = filled(placed, PAYLOAD_AT, RECORD_BYTES, payload);
-    rec[KIND_AT] = kind;
-    rec[SENDER_AT] = low_byte(sender.0);
-    rec[EPOCH_AT] = low_byte(e);
-    rec[EPOCH_AT + 1] = low_byte(e / BYTE);
-    rec[EPOCH_AT + 2] = low_byte(e / THIRD);
-    rec[EPOCH_AT + 3] = low_byte(e / FOURTH);
-    rec
-}
-
-// "1 proposal heard: all"
-pub fn proposal(sender: NodeNo, epoch: Epoch, name: u8, parent: u8) -> [u8; 96] {
-    record_of(PROPOSAL, sender, epoch, name, parent, NO_PAYLOAD)
-}
-
-// "2 vote heard: name"
-pub fn vote(sender: NodeNo, name: u8) -> [u8; 96] {
-    record_of(VOTE, sender, Epoch(0), name, GENESIS, NO_PAYLOAD)
-}
-
-// "3 clock heard: epoch"
-pub fn clock(sender: NodeNo, epoch: Epoch) -> [u8; 96] {
-    record_of(CLOCK, sender, epoch, GENESIS, GENESIS, NO_PAYLOAD)
-}
-
-// "4 propose now: name, payload"
-pub fn propose(own: NodeNo, name: u8, payload: u8) -> [u8; 96] {
-    record_of(PROPOSE, own, Epoch(0), name, GENESIS, payload)
-}
-
-// "5 cast a vote now: none"
-pub fn cast(own: NodeNo) -> [u8; 96] {
-    record_of(CAST, own, Epoch(0), GENESIS, GENESIS, NO_PAYLOAD)
-}
-
-// "6 the minute is up: none"
-pub fn minute(own: NodeNo) -> [u8; 96] {
-    record_of(MINUTE, own, Epoch(0), GENESIS, GENESIS, NO_PAYLOAD)
+// The record that an order names, its first letter being the kind; else the one that was at hand, perhaps with another byte.
+pub fn at_hand(rec: [u8; 96], order: Order) -> [u8; 96] {
+    let numbers = order.numbers;
+    let word = order.word;
+    match word {
+        FIRST_KIND..=LAST_KIND => record_of(word - ZERO, numbers),
+        MARK => with_byte(rec, numbers[0], numbers[1]),
+        _ => rec,
+    }
 }
 
 // A byte among the numbers of 32 bits.
@@ -149,22 +133,23 @@ fn wide(b: u8) -> u32
 }
 
 // "4 to 7 epoch (low byte first)"
-pub fn epoch_of(rec: [u8; 96]) -> Epoch {
+pub fn epoch_of(rec: [u8; 96]) -> u32 {
     let first = wide(rec[EPOCH_AT]);
-    let second = wide(rec[EPOCH_AT + 1]);
-    let third = wide(rec[EPOCH_AT + 2]);
-    let fourth = wide(rec[EPOCH_AT + 3]);
-    Epoch(first + BYTE * second + THIRD * third + FOURTH * fourth)
+    let second = wide(rec[SECOND_AT]);
+    let third = wide(rec[THIRD_AT]);
+    let fourth = wide(rec[FOURTH_AT]);
+    first + BYTE * second + THIRD * third + FOURTH * fourth
 }
 
 // The record that the first byte of each field tells of: a record built above is its own.
 pub fn rebuilt(rec: [u8; 96]) -> [u8; 96] {
-    record_of(
-        rec[KIND_AT],
-        NodeNo(wide(rec[SENDER_AT])),
+    let numbers = [
+        wide(rec[SENDER_AT]),
         epoch_of(rec),
-        rec[NAME_AT],
-        rec[PARENT_AT],
-        rec[PAYLOAD_AT],
-    )
+        wide(rec[NAME_AT]),
+        wide(rec[PARENT_AT]),
+        wide(rec[PAYLOAD_AT]),
+        0,
+    ];
+    record_of(rec[KIND_AT], numbers)
 }

@@ -8,57 +8,47 @@ use table::State;
 
 // The voters of two blocks.
 fn same_voters(a: [bool; 32], b: [bool; 32]) -> bool {
+    let mut same = true;
     for k in 0..MOST_NODES {
         let i = k as usize;
-        if a[i] != b[i] {
-            return false;
-        }
+        same = same & (a[i] == b[i]);
     }
-    true
+    same
 }
 
 // The clocks of two states.
 fn same_clocks(a: [Epoch; 32], b: [Epoch; 32]) -> bool {
+    let mut same = true;
     for k in 0..MOST_NODES {
         let i = k as usize;
-        if a[i].0 != b[i].0 {
-            return false;
-        }
+        same = same & (a[i].0 == b[i].0);
     }
-    true
+    same
 }
 
 // Two rows.
 fn same_block(a: Block, b: Block) -> bool {
     let name = a.name;
     let name_too = b.name;
-    if !check::same(&name, &name_too) {
-        return false;
-    }
     let payload = a.payload;
     let payload_too = b.payload;
-    if !check::same(&payload, &payload_too) {
-        return false;
-    }
     let voters = a.voters;
     let voters_too = b.voters;
-    if !same_voters(voters, voters_too) {
-        return false;
-    }
-    (a.epoch.0 == b.epoch.0) & (a.parent.0 == b.parent.0)
+    check::same(&name, &name_too)
+        & check::same(&payload, &payload_too)
+        & same_voters(voters, voters_too)
+        & (a.epoch.0 == b.epoch.0)
+        & (a.parent.0 == b.parent.0)
 }
 
 // The rows of two tables, the genesis's and the unused ones too.
-fn same_rows(a: State, b: State) -> bool {
+fn same_rows(a: [Block; 65], b: [Block; 65]) -> bool {
+    let mut same = true;
     for k in 0..CAPACITY + 1 {
         let i = k as usize;
-        let row = a.blocks[i];
-        let row_too = b.blocks[i];
-        if !same_block(row, row_too) {
-            return false;
-        }
+        same = same & same_block(a[i], b[i]);
     }
-    true
+    same
 }
 
 // What a state holds beside its table and its clocks.
@@ -76,13 +66,9 @@ fn same_rest(a: State, b: State) -> bool {
 
 // Are they the same.
 pub fn same_state(a: State, b: State) -> bool {
-    if !same_rest(a, b) {
-        return false;
-    }
     let clocks = a.clocks;
     let clocks_too = b.clocks;
-    if !same_clocks(clocks, clocks_too) {
-        return false;
-    }
-    same_rows(a, b)
+    let rows = a.blocks;
+    let rows_too = b.blocks;
+    same_rest(a, b) & same_clocks(clocks, clocks_too) & same_rows(rows, rows_too)
 }

@@ -17,6 +17,11 @@ pub fn text(bytes: &[u8]) {
     io::write_all(STDOUT_FILENO, bytes);
 }
 
+// One byte.
+pub fn echo(byte: u8) {
+    text(&[byte]);
+}
+
 // A number in decimal digits.
 pub fn number(x: u32) {
     io::print_decimal(STDOUT_FILENO, x as u64);
@@ -28,21 +33,8 @@ pub fn text_number(bytes: &[u8], x: u32) {
     number(x);
 }
 
-// Text, and a byte behind it.
-pub fn text_byte(bytes: &[u8], x: u8) {
-    text(bytes);
-    number(x as u32);
-}
-
-// A heading on a line of its own, below an empty one.
-pub fn heading(bytes: &[u8]) {
-    text(b"\n");
-    text(bytes);
-    text(b"\n");
-}
-
 // A name that is one byte throughout, by its letter.
-fn name(byte: u8) {
+pub fn name(byte: u8) {
     if byte == GENESIS {
         text(b"genesis");
         return;
@@ -52,15 +44,8 @@ fn name(byte: u8) {
         io::print_hex(STDOUT_FILENO, byte as u64, DIGITS);
         return;
     }
-    let letter = [LETTER + (low - LETTER_FROM)];
-    text(&letter);
+    echo(LETTER + (low - LETTER_FROM));
     if PRIME <= byte {
-        text(b"'");
+        echo(b'\'');
     }
-}
-
-// Text, and a name behind it.
-pub fn text_name(bytes: &[u8], byte: u8) {
-    text(bytes);
-    name(byte);
 }

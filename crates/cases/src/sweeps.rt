@@ -1,120 +1,123 @@
-// One change after another, each to the same state, and how many went as they should.
+// One change after another, each to the same state or record, and how many went as they should.
 
+use crate::calls::WHOLE;
+use crate::calls::answered_of;
 use crate::calls::answers;
-use crate::harms::Harm;
+use crate::calls::call;
 use crate::harms::harmed;
-use crate::kinds::good_of;
-use crate::records::CLOCK;
+use crate::orders::Order;
+use crate::records::with_byte;
 use crate::same::same_state;
 use crate::tallies::Tally;
 use crate::tallies::counted;
-use crate::tallies::none;
-use crate::tallies::tally_line;
-use table::CAPACITY;
+use node::answers::number_of;
+use node::start;
 use table::State;
 
-// From one number to another, both included.
-pub struct Span(pub u32, pub u32);
+// Byte `at` of the record is `to`; the same, and the answer must not be the wanted one.
+const BYTE: u8 = b'B';
 
-// What `to` runs over beside each `at`.
-pub enum Over {
-    // From one number to another, both included.
-    Each(u32, u32),
-    // One number.
-    Only(u32),
-    // The places above it.
-    Above,
-    // The places below it but the genesis's.
-    Below,
-    // The place itself.
-    Itself,
+const UNLIKE: u8 = b'U';
+// The record, the out buffer or both are of `to` bytes.
+const RECORD: u8 = b'R';
+
+const LENT: u8 = b'L';
+
+const SIZES: u8 = b'S';
+// A gateway `to` of `at` is started.
+const GATEWAY: u8 = b'G';
+
+// What is wanted where the changed state must only differ.
+const DIFFERS: u32 = 16;
+
+// Where `to` stands to `at`: anywhere, below, at the same, above.
+const ANYWHERE: u32 = 0;
+
+const BELOW: u32 = 1;
+
+const ITSELF: u32 = 2;
+
+const ABOVE: u32 = 3;
+
+// A change at each `at`, each time over each `to` that stands so to it, and what must come of it.
+struct Sweep {
+    word: u8,
+    at_first: u32,
+    at_last: u32,
+    to_first: u32,
+    to_last: u32,
+    relation: u32,
+    want: u32,
 }
 
-// One change at each of some places, each time over some numbers.
-pub struct Changes {
-    harm: Harm,
-    places: Span,
-    over: Over,
+// Did a change to the state come to what it must.
+fn state_wanted(s: State, changed: State, rec: [u8; 96], want: u32) -> bool {
+    if want == DIFFERS {
+        return !same_state(s, changed);
+    }
+    answers(changed, rec, want)
 }
 
-// What must come of a change.
-pub enum Want {
-    // A good record gets this answer and, where it is refused, state and out buffer come back the same.
-    Answer(u32),
-    // The comparison tells the state from the unchanged one.
-    Differs,
-}
-
-// No number at all.
-const NOTHING: Span = Span(1, 0);
-
-// Changes at some places.
-pub fn at_each(places: Span, harm: Harm, over: Over) -> Changes {
-    Changes {
-        harm: harm,
-        places: places,
-        over: over,
+// Did one change come to what it must: an answer and, where it refuses, state and out buffer back the same.
+fn as_wanted(s: State, rec: [u8; 96], word: u8, at: u32, to: u32, want: u32) -> bool {
+    match word {
+        BYTE => answers(s, with_byte(rec, at, to), want),
+        UNLIKE => call(s, with_byte(rec, at, to)).answer != want,
+        RECORD => answered_of(s, rec, to, WHOLE, want),
+        LENT => answered_of(s, rec, WHOLE, to, want),
+        SIZES => answered_of(s, rec, to, to, want),
+        GATEWAY => started(at, to) == want,
+        _ => state_wanted(s, harmed(s, word, at, to), rec, want),
     }
 }
 
-// Changes of a field beside table and clocks.
-pub fn of_field(field: u32, over: Over) -> Changes {
-    at_each(Span(field, field), Harm::Field, over)
+// The answer to a start.
+pub fn started(n: u32, own: u32) -> u32 {
+    let answer = start(n, own).answer;
+    number_of(answer)
 }
 
-// Changes of the clocks kept from some numbers; a clock has no place.
-pub fn of_clocks(first: u32, last: u32) -> Changes {
-    at_each(Span(0, 0), Harm::Clock, Over::Each(first, last))
-}
-
-// The numbers that `to` runs over beside one `at`.
-fn span_of(over: Over, at: u32) -> Span {
-    match over {
-        Over::Each(first, last) => Span(first, last),
-        Over::Only(number) => Span(number, number),
-        Over::Above => {
-            if CAPACITY <= at {
-                NOTHING
-            } else {
-                Span(at + 1, CAPACITY)
-            }
-        }
-        Over::Below => { if at == 0 { NOTHING } else { Span(1, at - 1) } }
-        Over::Itself => Span(at, at),
+// Does `to` stand to `at` as it is to.
+fn stands(relation: u32, at: u32, to: u32) -> bool {
+    match relation {
+        BELOW => to < at,
+        ITSELF => to == at,
+        ABOVE => at < to,
+        _ => true,
     }
 }
 
-// Did the change come to what it must; the good record is a clock, which is taken on every unchanged state.
-fn as_wanted(s: State, changed: State, want: Want) -> bool {
-    match want {
-        Want::Answer(number) => answers(changed, good_of(CLOCK), number),
-        Want::Differs => !same_state(s, changed),
-    }
-}
-
-// Every change at one place.
-fn across(tally: Tally, s: State, harm: Harm, at: u32, over: Over, want: Want) -> Tally {
-    let span = span_of(over, at);
+// Every `to` beside one `at`.
+fn across(tally: Tally, s: State, rec: [u8; 96], sweep: Sweep, at: u32) -> Tally {
     let mut t = tally;
-    for to in span.0..=span.1 {
-        t = counted(t, as_wanted(s, harmed(s, harm, at, to), want));
+    for to in sweep.to_first..=sweep.to_last {
+        if stands(sweep.relation, at, to) {
+            t = counted(t, as_wanted(s, rec, sweep.word, at, to, sweep.want));
+        }
     }
     t
 }
 
-// Every change at every place.
-fn tallied(s: State, changes: Changes, want: Want) -> Tally {
-    let harm = changes.harm;
-    let over = changes.over;
-    let places = changes.places;
-    let mut t = none();
-    for at in places.0..=places.1 {
-        t = across(t, s, harm, at, over, want);
+// The numbers of an order as a sweep.
+fn sweep_of(order: Order) -> Sweep {
+    let numbers = order.numbers;
+    Sweep {
+        word: order.word,
+        at_first: numbers[0],
+        at_last: numbers[1],
+        to_first: numbers[2],
+        to_last: numbers[3],
+        relation: numbers[4],
+        want: numbers[5],
     }
-    t
 }
 
-// The same, told in a line.
-pub fn sweep(label: &[u8], s: State, changes: Changes, want: Want) {
-    tally_line(label, tallied(s, changes, want));
+// Every change of an order.
+pub fn swept(tally: Tally, s: State, rec: [u8; 96], order: Order) -> Tally {
+    let sweep = sweep_of(order);
+    let mut t = tally;
+    for at in sweep.at_first..=sweep.at_last {
+        t = across(t, s, rec, sweep, at);
+    }
+    t
 }

@@ -2,50 +2,53 @@
 
 use crate::calls::begun;
 use crate::calls::next;
-use crate::records::GENESIS;
-use crate::records::low_byte;
-use crate::records::proposal;
-use crate::session::NODES;
-use crate::session::OWN;
-use crate::session::PROPOSER;
+use crate::records::PROPOSAL;
+use crate::records::record_of;
 use table::CAPACITY;
-use table::Epoch;
 use table::State;
 ghost use Prim.Native.Nat.{_<_};
 ghost use Rattle.table.specs.Rows.{capacity};
 
-// The name of the block at a place is that number 32 times.
-pub enum Table {
-    // Each block on the one before it, of rising epochs.
-    Chain,
-    // Each on the genesis, all of epoch 1.
-    Flat,
-    // Each on the genesis, of falling epochs.
-    Falling,
-}
+// Each block on the one before it, of rising epochs; each on the genesis, all of epoch 1; each on the genesis, of falling epochs.
+const CHAIN: u32 = 0;
+
+const FLAT: u32 = 1;
+
+// "A session at node 0 of 4"; node 1's turn the first epoch is.
+const NODES: u32 = 4;
+
+const OWN: u32 = 0;
+
+const PROPOSER: u32 = 1;
+
+const ROOT: u32 = 0;
 
 // "proposer of epoch e is e mod n": an epoch of node 1's, later the greater k is.
-fn turn(k: u32) -> Epoch
+fn turn(k: u32) -> u32
     requires { ⌜ k < capacity ⌝ }
 {
-    Epoch(NODES * k + PROPOSER.0)
+    NODES * k + PROPOSER
+}
+
+// The proposal of a block; its name is its place 32 times.
+fn proposal(epoch: u32, place: u32, parent: u32) -> [u8; 96] {
+    record_of(PROPOSAL, [PROPOSER, epoch, place, parent, 0, 0])
 }
 
 // The proposal of the block that comes after k others.
-fn heard(table: Table, k: u32) -> [u8; 96]
+fn heard(table: u32, k: u32) -> [u8; 96]
     requires { ⌜ k < capacity ⌝ }
 {
-    let own_name = low_byte(k + 1);
     match table {
-        Table::Chain => proposal(PROPOSER, turn(k), own_name, low_byte(k)),
-        Table::Flat => proposal(PROPOSER, turn(0), own_name, GENESIS),
-        Table::Falling => proposal(PROPOSER, turn(CAPACITY - 1 - k), own_name, GENESIS),
+        CHAIN => proposal(turn(k), k + 1, k),
+        FLAT => proposal(turn(0), k + 1, ROOT),
+        _ => proposal(turn(CAPACITY - 1 - k), k + 1, ROOT),
     }
 }
 
 // A full table at node 0 of 4, with no votes and no clocks.
-pub fn full(table: Table) -> State {
-    let mut s = begun(NODES, OWN.0);
+pub fn full(table: u32) -> State {
+    let mut s = begun(NODES, OWN);
     for k in 0..CAPACITY {
         s = next(s, heard(table, k));
     }

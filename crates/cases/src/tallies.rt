@@ -1,7 +1,13 @@
 // How many of the cases tried went as 01 says.
 
-use crate::say::text;
+use crate::orders::Order;
+use crate::orders::SWEEP;
+use crate::orders::TOLD_SWEEP;
+use crate::say::number;
 use crate::say::text_number;
+use crate::sweeps::swept;
+use std::num::wrapping_add_u32;
+use table::State;
 
 pub struct Tally {
     pub good: u32,
@@ -13,30 +19,27 @@ pub fn none() -> Tally {
     Tally { good: 0, tried: 0 }
 }
 
-// One case more; past the largest number, which no run here reaches, the count stands still.
+// One case more; past the largest number, which no run here reaches, the count starts anew.
 pub fn counted(t: Tally, good: bool) -> Tally {
-    if t.good == u32::MAX {
-        return t;
-    }
-    if t.tried == u32::MAX {
-        return t;
-    }
-    if good {
-        return Tally {
-            good: t.good + 1,
-            tried: t.tried + 1,
-        };
-    }
     Tally {
-        good: t.good,
-        tried: t.tried + 1,
+        good: wrapping_add_u32(t.good, good as u32),
+        tried: wrapping_add_u32(t.tried, 1),
     }
 }
 
-// `LABEL: GOOD of TRIED`
-pub fn tally_line(label: &[u8], t: Tally) {
-    text(label);
-    text_number(b": ", t.good);
+// `GOOD of TRIED`, and a new tally begins.
+fn finished(t: Tally) -> Tally {
+    number(t.good);
     text_number(b" of ", t.tried);
-    text(b"\n");
+    none()
+}
+
+// The tally after an order: a sweep adds to it.
+pub fn tallied(t: Tally, s: State, rec: [u8; 96], order: Order) -> Tally {
+    let opener = order.opener;
+    match opener {
+        SWEEP => swept(t, s, rec, order),
+        TOLD_SWEEP => finished(swept(t, s, rec, order)),
+        _ => t,
+    }
 }

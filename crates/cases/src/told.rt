@@ -1,22 +1,18 @@
-// A record played and told in one line: the record, the answer, and what the call left.
+// A record played and told: the record, the answer, and what the call left.
 
-use crate::calls::Outcome;
 use crate::calls::TAKEN;
 use crate::calls::UNTOUCHED;
+use crate::calls::answers;
 use crate::calls::call;
-use crate::calls::handed_back;
 use crate::calls::throughout;
 use crate::describe::describe;
-use crate::records::clock;
-use crate::records::vote;
+use crate::say::echo;
+use crate::say::name;
 use crate::say::text;
-use crate::say::text_name;
 use crate::say::text_number;
 use lists::finals::final_list;
 use table::CAPACITY;
-use table::Epoch;
 use table::NAME_BYTES;
-use table::NodeNo;
 use table::State;
 
 // "names .. 32 bytes each", and room for 64 of them.
@@ -24,42 +20,42 @@ const NAME: usize = NAME_BYTES as usize;
 
 const LIST_BYTES: usize = NAME * CAPACITY as usize;
 
-// A name of a final list, by its letter; `?` behind it where its bytes are not alike.
-fn final_name(list: [u8; LIST_BYTES], k: u32) {
-    if CAPACITY <= k {
-        return;
-    }
-    let at = NAME * (k as usize);
-    let end = at + NAME;
-    let first = list[at];
-    text_name(b" ", first);
-    if !throughout(&list[at..end], first) {
-        text(b"?");
+// `?` where the bytes are not all this one.
+fn all_alike(bytes: &[u8], byte: u8) {
+    if !throughout(bytes, byte) {
+        echo(b'?');
     }
 }
 
-// "the rest of it unchanged"
-fn final_rest(list: [u8; LIST_BYTES], count: u32) {
-    if CAPACITY < count {
-        return;
-    }
-    let at = NAME * (count as usize);
-    if count == 0 {
-        text(b" empty");
-    }
-    if !throughout(&list[at..LIST_BYTES], UNTOUCHED) {
-        text(b" and more");
+// A name of a final list, by its letter; "the rest of it unchanged".
+fn final_name(bytes: &[u8], first: u8, listed: bool) {
+    if listed {
+        echo(b' ');
+        name(first);
+        all_alike(bytes, first);
+    } else {
+        all_alike(bytes, UNTOUCHED);
     }
 }
 
 // "Final list: names from the first block after genesis to the kept final block"
+fn final_names(list: [u8; LIST_BYTES], count: u32) {
+    for k in 0..CAPACITY {
+        let at = NAME * (k as usize);
+        let end = at + NAME;
+        let first = list[at];
+        final_name(&list[at..end], first, k < count);
+    }
+}
+
+// The final list of a state.
 pub fn finals(s: State) {
     let mut list = [UNTOUCHED; LIST_BYTES];
     let got = final_list(s, &mut list);
-    for k in 0..got.count {
-        final_name(list, k);
+    if got.count == 0 {
+        text(b" empty");
     }
-    final_rest(list, got.count);
+    final_names(list, got.count);
 }
 
 // The local epoch, the bar and the final list.
@@ -80,8 +76,17 @@ fn sending(out: [u8; 96]) {
     describe(out);
 }
 
+// A record that was taken.
+fn tell_taken(s: State, out: [u8; 96]) {
+    standing(s);
+    sending(out);
+    if s.torn {
+        text(b", torn");
+    }
+}
+
 // "state and out buffer come back the same"
-fn back(same: bool) {
+fn tell_refused(same: bool) {
     if same {
         text(b", handed back");
         return;
@@ -89,48 +94,18 @@ fn back(same: bool) {
     text(b", CHANGED");
 }
 
-// The answer, and what the call left.
-fn tell(s: State, got: Outcome) {
-    text_number(b": ", got.answer);
-    if got.answer != TAKEN {
-        back(handed_back(s, got));
-        return;
-    }
-    let state = got.state;
-    let out = got.out;
-    standing(state);
-    sending(out);
-    if state.torn {
-        text(b", torn");
-    }
-}
-
-// Plays a record, tells it in a line and hands on the state.
+// Plays a record, tells it and hands on the state.
 pub fn told(s: State, rec: [u8; 96]) -> State {
     describe(rec);
     let got = call(s, rec);
-    tell(s, got);
-    text(b"\n");
+    let answer = got.answer;
     let state = got.state;
+    let out = got.out;
+    text_number(b": ", answer);
+    if answer == TAKEN {
+        tell_taken(state, out);
+    } else {
+        tell_refused(answers(s, rec, answer));
+    }
     state
-}
-
-// The same, with a few words in front.
-pub fn labelled(label: &[u8], s: State, rec: [u8; 96]) -> State {
-    text(label);
-    told(s, rec)
-}
-
-// "votes of 1, 2, 3"
-pub fn votes_of_three(s: State, block: u8) -> State {
-    let first = told(s, vote(NodeNo(1), block));
-    let second = told(first, vote(NodeNo(2), block));
-    told(second, vote(NodeNo(3), block))
-}
-
-// The same clock from 1, 2 and 3.
-pub fn clocks_of_three(s: State, epoch: Epoch) -> State {
-    let first = told(s, clock(NodeNo(1), epoch));
-    let second = told(first, clock(NodeNo(2), epoch));
-    told(second, clock(NodeNo(3), epoch))
 }

@@ -6,19 +6,16 @@ use Rattle.cases.proofs.calls.throughout.Statement.{statement}
 use Rattle.cases.proofs.calls.throughout.Tie as tie
 
 abbrev Inv-loop : tie.InvT-loop
-Inv-loop bytes byte i₀ i = Unit {0}
+Inv-loop bytes byte all₀ i₀ i-end all i = Unit {0}
 
 abbrev μ-loop : tie.MeasureT-loop
-μ-loop bytes byte i₀ i = length bytes - i
+μ-loop bytes byte all₀ i₀ i-end all i = length bytes - i
 
 loop-holds : tie.Need-loop-holds Inv-loop μ-loop
 loop-holds c = tt
 
-shared-slice-read-if1 : tie.Need-shared-slice-read-if1 Inv-loop μ-loop
-shared-slice-read-if1 c = search needs
-
-returns : tie.Need-returns Inv-loop μ-loop
-returns c = tt
+shared-slice-read-all : tie.Need-shared-slice-read-all Inv-loop μ-loop
+shared-slice-read-all c = search needs
 
 add-i : tie.Need-add-i Inv-loop μ-loop
 add-i c = omega arith
@@ -29,19 +26,10 @@ loop-less c = omega arith
 loop-again : tie.Need-loop-again Inv-loop μ-loop
 loop-again c = tt
 
-returns-2 : tie.Need-returns-2 Inv-loop μ-loop
-returns-2 c = tt
+returns : tie.Need-returns Inv-loop μ-loop
+returns c = tt
 
 pub throughout-spec : {M : Type 1} → statement M
 throughout-spec =
     tie.close
-    (tie.spec
-    Inv-loop
-    μ-loop
-    loop-holds
-    shared-slice-read-if1
-    returns
-    add-i
-    loop-less
-    loop-again
-    returns-2)
+    (tie.spec Inv-loop μ-loop loop-holds shared-slice-read-all add-i loop-less loop-again returns)

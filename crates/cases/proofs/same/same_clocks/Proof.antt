@@ -5,10 +5,10 @@ use Rattle.cases.proofs.same.same_clocks.Statement.{statement}
 use Rattle.cases.proofs.same.same_clocks.Tie as tie
 
 abbrev Inv-loop : tie.InvT-loop
-Inv-loop a b k₀ k = Unit {0}
+Inv-loop a b same₀ k₀ same k = Unit {0}
 
 abbrev μ-loop : tie.MeasureT-loop
-μ-loop a b k₀ k = 32 - k
+μ-loop a b same₀ k₀ same k = 32 - k
 
 loop-holds : tie.Need-loop-holds Inv-loop μ-loop
 loop-holds c = tt
@@ -16,20 +16,17 @@ loop-holds c = tt
 cast-i : tie.Need-cast-i Inv-loop μ-loop
 cast-i c = search needs
 
-mul-if1 : tie.Need-mul-if1 Inv-loop μ-loop
-mul-if1 c = search needs
+mul-same : tie.Need-mul-same Inv-loop μ-loop
+mul-same c = omega arith
 
-element-copy-out-if1 : tie.Need-element-copy-out-if1 Inv-loop μ-loop
-element-copy-out-if1 c = search needs
+element-copy-out-same : tie.Need-element-copy-out-same Inv-loop μ-loop
+element-copy-out-same c = search needs
 
-mul-if1-2 : tie.Need-mul-if1-2 Inv-loop μ-loop
-mul-if1-2 c = search needs
+mul-same-2 : tie.Need-mul-same-2 Inv-loop μ-loop
+mul-same-2 c = omega arith
 
-element-copy-out-if1-2 : tie.Need-element-copy-out-if1-2 Inv-loop μ-loop
-element-copy-out-if1-2 c = search needs
-
-returns : tie.Need-returns Inv-loop μ-loop
-returns c = tt
+element-copy-out-same-2 : tie.Need-element-copy-out-same-2 Inv-loop μ-loop
+element-copy-out-same-2 c = search needs
 
 add-k : tie.Need-add-k Inv-loop μ-loop
 add-k c = omega arith
@@ -40,8 +37,8 @@ loop-less c = omega arith
 loop-again : tie.Need-loop-again Inv-loop μ-loop
 loop-again c = tt
 
-returns-2 : tie.Need-returns-2 Inv-loop μ-loop
-returns-2 c = tt
+returns : tie.Need-returns Inv-loop μ-loop
+returns c = tt
 
 pub same-clocks-spec : {M : Type 1} → statement M
 same-clocks-spec =
@@ -51,12 +48,11 @@ same-clocks-spec =
     μ-loop
     loop-holds
     cast-i
-    mul-if1
-    element-copy-out-if1
-    mul-if1-2
-    element-copy-out-if1-2
-    returns
+    mul-same
+    element-copy-out-same
+    mul-same-2
+    element-copy-out-same-2
     add-k
     loop-less
     loop-again
-    returns-2)
+    returns)

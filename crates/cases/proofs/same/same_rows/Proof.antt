@@ -5,10 +5,10 @@ use Rattle.cases.proofs.same.same_rows.Statement.{statement}
 use Rattle.cases.proofs.same.same_rows.Tie as tie
 
 abbrev Inv-loop : tie.InvT-loop
-Inv-loop a b k₀ k = Unit {0}
+Inv-loop a b same₀ k₀ same k = Unit {0}
 
 abbrev μ-loop : tie.MeasureT-loop
-μ-loop a b k₀ k = 65 - k
+μ-loop a b same₀ k₀ same k = 65 - k
 
 loop-holds : tie.Need-loop-holds Inv-loop μ-loop
 loop-holds c = tt
@@ -16,23 +16,20 @@ loop-holds c = tt
 cast-i : tie.Need-cast-i Inv-loop μ-loop
 cast-i c = search needs
 
-mul-row : tie.Need-mul-row Inv-loop μ-loop
-mul-row c = search needs
+mul-same-block : tie.Need-mul-same-block Inv-loop μ-loop
+mul-same-block c = omega arith
 
-element-copy-out-row : tie.Need-element-copy-out-row Inv-loop μ-loop
-element-copy-out-row c = search needs
+array-copy-out-same-block : tie.Need-array-copy-out-same-block Inv-loop μ-loop
+array-copy-out-same-block c = search needs
 
-mul-row-too : tie.Need-mul-row-too Inv-loop μ-loop
-mul-row-too c = search needs
+mul-same-block-2 : tie.Need-mul-same-block-2 Inv-loop μ-loop
+mul-same-block-2 c = omega arith
 
-element-copy-out-row-too : tie.Need-element-copy-out-row-too Inv-loop μ-loop
-element-copy-out-row-too c = search needs
+array-copy-out-same-block-2 : tie.Need-array-copy-out-same-block-2 Inv-loop μ-loop
+array-copy-out-same-block-2 c = search needs
 
 same-block-requires : tie.Need-same-block-requires Inv-loop μ-loop
 same-block-requires c κs = search needs
-
-returns : tie.Need-returns Inv-loop μ-loop
-returns c = tt
 
 add-k : tie.Need-add-k Inv-loop μ-loop
 add-k c = omega arith
@@ -43,8 +40,8 @@ loop-less c = omega arith
 loop-again : tie.Need-loop-again Inv-loop μ-loop
 loop-again c = tt
 
-returns-2 : tie.Need-returns-2 Inv-loop μ-loop
-returns-2 c = tt
+returns : tie.Need-returns Inv-loop μ-loop
+returns c = tt
 
 pub same-rows-spec : {M : Type 1} → statement M
 same-rows-spec =
@@ -54,13 +51,12 @@ same-rows-spec =
     μ-loop
     loop-holds
     cast-i
-    mul-row
-    element-copy-out-row
-    mul-row-too
-    element-copy-out-row-too
+    mul-same-block
+    array-copy-out-same-block
+    mul-same-block-2
+    array-copy-out-same-block-2
     same-block-requires
-    returns
     add-k
     loop-less
     loop-again
-    returns-2)
+    returns)

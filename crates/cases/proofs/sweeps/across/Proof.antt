@@ -5,19 +5,16 @@ use Rattle.cases.proofs.sweeps.across.Statement.{statement}
 use Rattle.cases.proofs.sweeps.across.Tie as tie
 
 abbrev Inv-loop : tie.InvT-loop
-Inv-loop s harm at want t₀ to₀ to-end t to = Unit {0}
+Inv-loop s rec sweep at t₀ to₀ to-end t to = Unit {0}
 
 abbrev μ-loop : tie.MeasureT-loop
-μ-loop s harm at want t₀ to₀ to-end t to = suc to-end - to
-
-span-of-requires : tie.Need-span-of-requires Inv-loop μ-loop
-span-of-requires c κs = search needs
+μ-loop s rec sweep at t₀ to₀ to-end t to = suc to-end - to
 
 loop-holds : tie.Need-loop-holds Inv-loop μ-loop
 loop-holds c = tt
 
-harmed-requires : tie.Need-harmed-requires Inv-loop μ-loop
-harmed-requires c κs = search needs
+stands-requires : tie.Need-stands-requires Inv-loop μ-loop
+stands-requires c κs = search needs
 
 as-wanted-requires : tie.Need-as-wanted-requires Inv-loop μ-loop
 as-wanted-requires c κs = search needs
@@ -46,9 +43,8 @@ across-spec =
     (tie.spec
     Inv-loop
     μ-loop
-    span-of-requires
     loop-holds
-    harmed-requires
+    stands-requires
     as-wanted-requires
     counted-requires
     add-to
