@@ -6,7 +6,7 @@ use std::num::wrapping_add_u32;
 // `[..]` is an order that prints, `#..` and the line's end one that doesn't.
 pub const LOUD: u8 = b'[';
 
-pub const QUIET: u8 = b'#';
+const QUIET: u8 = b'#';
 // `(..)` is a sweep whose tally is printed, `+..` and the line's end one that is only counted.
 pub const TOLD_SWEEP: u8 = b'(';
 

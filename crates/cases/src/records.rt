@@ -27,10 +27,12 @@ pub const NAME_AT: usize = 8;
 pub const PARENT_AT: usize = 40;
 
 pub const PAYLOAD_AT: usize = 72;
-// Where name and parent name end.
+// Where name, parent name and payload end.
 const NAME_LAST: usize = PARENT_AT - 1;
 
 const PARENT_LAST: usize = PAYLOAD_AT - 1;
+
+const PAYLOAD_LAST: usize = RECORD_BYTES - 1;
 
 // "1 proposal heard, 2 vote heard, 3 clock heard, 4 propose now, 5 cast a vote now, 6 the minute is up"
 pub const PROPOSAL: u8 = 1;
@@ -68,7 +70,7 @@ const PARENT: usize = 3;
 const PAYLOAD: usize = 4;
 
 // The lowest byte of a number.
-pub fn low_byte(x: u32) -> u8 {
+fn low_byte(x: u32) -> u8 {
     (x % BYTE) as u8
 }
 
@@ -90,7 +92,7 @@ fn byte_of(kind: u8, numbers: [u32; NUMBERS], at: usize) -> u8 {
         EPOCH_AT..=FOURTH_AT => epoch_byte(numbers[EPOCH], at),
         NAME_AT..=NAME_LAST => low_byte(numbers[NAME]),
         PARENT_AT..=PARENT_LAST => low_byte(numbers[PARENT]),
-        PAYLOAD_AT..=RECORD_BYTES => low_byte(numbers[PAYLOAD]),
+        PAYLOAD_AT..=PAYLOAD_LAST => low_byte(numbers[PAYLOAD]),
         _ => 0,
     }
 }

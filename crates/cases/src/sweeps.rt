@@ -30,9 +30,7 @@ const GATEWAY: u8 = b'G';
 // What is wanted where the changed state must only differ.
 const DIFFERS: u32 = 16;
 
-// Where `to` stands to `at`: anywhere, below, at the same, above.
-const ANYWHERE: u32 = 0;
-
+// Where `to` stands to `at`: below, at the same, above; with any other number, anywhere.
 const BELOW: u32 = 1;
 
 const ITSELF: u32 = 2;
