@@ -13,7 +13,7 @@ use Rattle.table.specs.declared.State.{State}
 use Rattle.table.specs.Scan.{pick}
 use Rattle.table.specs.Rows.{capacity, rows, at}
 use Rattle.pala.specs.Answers.{taken}
-use Rattle.pala.specs.Record.{recordBytes, kindOf}
+use Rattle.pala.specs.Record.{recordBytes, kindOf, senderOf}
 use Rattle.pala.specs.Run.{lent}
 use Rattle.pala.specs.Step.{step}
 use Rattle.node.specs.Moves.{placeFor}
@@ -130,11 +130,11 @@ module _ {h : Hall} {book : List ℕ} (k : Kept h) (pages : Pages h book) (i : �
 
 module _ {h : Hall} {book : List ℕ} (k : Kept h) (pages : Pages h book) (i : ℕ) (e : honestIn h i ≡ true) (r : List ℕ)
     (takes : taken (step (gateway h i) r lent .answer) ≡ true) (t : State) (new : t ≡ step (gateway h i) r lent .state)
-    (p : ℕ) (place : p ≡ touched (kindOf r) (placeFor (gateway h i) r) (t .count)) where
+    (p : ℕ) (place : p ≡ touched i (kindOf r) (senderOf r) (placeFor (gateway h i) r) (t .count)) where
   touches : Touches (gateway h i) t i p
   touches =
       subst (Touches (gateway h i) t i) (sym place)
-      (subst (λ (u : State). Touches (gateway h i) u i (touched (kindOf r) (placeFor (gateway h i) r) (u .count))) (sym new)
+      (subst (λ (u : State). Touches (gateway h i) u i (touched i (kindOf r) (senderOf r) (placeFor (gateway h i) r) (u .count))) (sym new)
       (step-touches (gateway h i) (k .places i (k .low i e)) (k .shaped i (k .low i e)) r takes i))
 
   -- the place is one that the table has

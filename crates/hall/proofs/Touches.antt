@@ -1,11 +1,13 @@
 -- A taken record changes at most one row of its receiver's table. Assumes nothing.
 use Prim.Native.Nat.{ℕ, suc, _≤_, _<_}
-use mathlib.Core.Bool.{Bool, true, false, _||_}
+use mathlib.Core.Bool.{Bool, true, false, _&&_, _||_, and-false}
 use mathlib.Core.List.{List, [], _∷_, _++_}
 use mathlib.Core.Logic.{_≢_, _⊎_, inl, inr}
 use mathlib.Core.Path.{_≡_, refl, sym, ap, ap₂, subst, _∙_}
-use native.Mathlib.Decide.{decLt}
+use native.Mathlib.Decide.{decLt, ℕ-discrete}
 use native.Mathlib.Omega.{arith}
+use borrow.Author.Tests.{eq-eqb, ne-eqb}
+use lib.Dec.{eqb}
 use lib.ListN.{length, set, length-set}
 use Rattle.table.specs.declared.Block.{Block}
 use Rattle.table.specs.declared.State.{State}
@@ -14,47 +16,60 @@ use Rattle.table.specs.Rows.{capacity, rows, size, at, find, hasVoter, withVote
 use Rattle.table.proofs.Laws.{not-both, pick-yes, pick-no, pick-case, at-out}
 use Rattle.pala.specs.Answers.{taken}
 use Rattle.pala.specs.Effects.{withBlock, withVote, withClock, picked}
-use Rattle.pala.specs.Record.{kindOf, nameOf, is, message, proposalHeard, voteHeard, proposeNow, castNow}
+use Rattle.pala.specs.Record.{kindOf, senderOf, nameOf, is, message, proposalHeard, voteHeard, proposeNow, castNow}
 use Rattle.pala.specs.Rules.{epochAt, parentOf}
 use Rattle.pala.specs.Run.{lent}
 use Rattle.pala.specs.Shape.{wellShaped}
 use Rattle.pala.specs.Step.{step, room}
 use Rattle.pala.specs.Steps.{settled}
 use Rattle.pala.proofs.Calls.{step-stepped}
-use Rattle.pala.proofs.Grown.{Grown, grown-parent, grown-append, grown-vote, size-append, at-append, at-last, at-set-other, at-vote, rows-clock}
+use Rattle.pala.proofs.Grown.{Grown, grown-parent, grown-append, grown-vote, size-append, at-append, at-last, at-set-other, at-vote, voter-was, rows-clock}
 use Rattle.pala.proofs.Keeps.{size-shaped, rows-added, rows-voted, not-full}
 use Rattle.pala.proofs.Moves.{Did, added, counted, cast, clocked, Stepped, refused, took, other-kind}
 use Rattle.pala.proofs.Places.{parent-below}
-use Rattle.pala.proofs.Shapes.{shaped-count}
+use Rattle.pala.proofs.Shapes.{and-both, shaped-count}
 use Rattle.pala.proofs.Tests.{or-l, or-r}
 use Rattle.node.specs.Moves.{placeFor}
 use Rattle.hall.specs.Book.{Whole, blockRow, touched}
 
 -- ---- the place
 
-module _ (r : List ℕ) (place held : ℕ) where
-  touched-vote : is voteHeard r ≡ true → touched (kindOf r) place held ≡ place
-  unfolding touched
-  touched-vote k = pick-yes _ _ _ (or-l (is voteHeard r) (is castNow r) k)
+module _ (i : ℕ) (r : List ℕ) (place held : ℕ) where
+  -- the place by this record
+  abbrev by : ℕ
+  by = touched i (kindOf r) (senderOf r) place held
 
-  touched-cast : is castNow r ≡ true → touched (kindOf r) place held ≡ place
+  touched-cast : is castNow r ≡ true → by ≡ place
   unfolding touched
-  touched-cast k = pick-yes _ _ _ (or-r (is voteHeard r) (is castNow r) k)
+  touched-cast k = pick-yes _ _ _ (or-l (is castNow r) (is voteHeard r && eqb (senderOf r) i) k)
 
-  touched-none : is voteHeard r ≡ false → is castNow r ≡ false → touched (kindOf r) place held ≡ pick (is proposalHeard r || is proposeNow r) held 0
+  touched-vote : is voteHeard r ≡ true → senderOf r ≡ i → by ≡ place
   unfolding touched
-  touched-none a b = pick-no _ _ _ (ap₂ (λ (x y : Bool). x || y) a b)
+  touched-vote k e =
+      pick-yes _ _ _ (or-r (is castNow r) (is voteHeard r && eqb (senderOf r) i) (and-both (is voteHeard r) (eqb (senderOf r) i) k (eq-eqb (senderOf r) i e)))
 
-  touched-within : is voteHeard r ≡ false → is castNow r ≡ false → touched (kindOf r) place held ≤ held
+  touched-none : (is castNow r || is voteHeard r && eqb (senderOf r) i) ≡ false → by ≡ pick (is proposalHeard r || is proposeNow r) held 0
+  unfolding touched
+  touched-none e = pick-no _ _ _ e
+
+  touched-other : is voteHeard r ≡ true → senderOf r ≢ i → by ≡ 0
+  touched-other k d =
+      touched-none (ap₂ (λ (x y : Bool). x || is voteHeard r && y) (other-kind r voteHeard castNow k refl) (ne-eqb (senderOf r) i d) ∙ and-false (is voteHeard r))
+      ∙ pick-no _ _ _ (ap₂ (λ (x y : Bool). x || y) (other-kind r voteHeard proposalHeard k refl) (other-kind r voteHeard proposeNow k refl))
+
+  no-vote : is voteHeard r ≡ false → is castNow r ≡ false → (is castNow r || is voteHeard r && eqb (senderOf r) i) ≡ false
+  no-vote a b = ap₂ (λ (x y : Bool). x || y && eqb (senderOf r) i) b a
+
+  touched-within : is voteHeard r ≡ false → is castNow r ≡ false → by ≤ held
   touched-within a b =
-      subst (λ (x : ℕ). x ≤ held) (sym (touched-none a b)) (pick-case (λ (x : ℕ). x ≤ held) _ held 0 (λ _. omega arith) (λ _. omega arith))
+      subst (λ (x : ℕ). x ≤ held) (sym (touched-none (no-vote a b))) (pick-case (λ (x : ℕ). x ≤ held) _ held 0 (λ _. omega arith) (λ _. omega arith))
 
-  touched-block : (is proposalHeard r ≡ true) ⊎ (is proposeNow r ≡ true) → touched (kindOf r) place held ≡ held
+  touched-block : (is proposalHeard r ≡ true) ⊎ (is proposeNow r ≡ true) → by ≡ held
   touched-block (inl k) =
-      touched-none (other-kind r proposalHeard voteHeard k refl) (other-kind r proposalHeard castNow k refl)
+      touched-none (no-vote (other-kind r proposalHeard voteHeard k refl) (other-kind r proposalHeard castNow k refl))
       ∙ pick-yes _ _ _ (or-l (is proposalHeard r) (is proposeNow r) k)
   touched-block (inr k) =
-      touched-none (other-kind r proposeNow voteHeard k refl) (other-kind r proposeNow castNow k refl)
+      touched-none (no-vote (other-kind r proposeNow voteHeard k refl) (other-kind r proposeNow castNow k refl))
       ∙ pick-yes _ _ _ (or-r (is proposalHeard r) (is proposeNow r) k)
 
 module _ (s : State) (r : List ℕ) where
@@ -79,6 +94,22 @@ row-kept {t} {u} g i q pos l e =
     let up : at u (parentOf u q) .name ≡ at t (parentOf t q) .name =
     ap (λ (x : ℕ). at u x .name) (grown-parent g q l) ∙ g .name (parentOf t q) (omega (arith, parent-below t q pos)) in
     ap₂ (λ (b : Block) (n : List ℕ). message proposalHeard (pick (hasVoter b i) 1 0) (b .epoch .0) (b .name) n (b .payload)) e up
+
+-- another's vote leaves every row of gateway i
+row-voted : (t : List Block) (p j i q : ℕ) → p < size t → j ≢ i → 0 < q → q < size t → blockRow (set t p (withVoter (at t p) j)) i q ≡ blockRow t i q
+unfolding blockRow epochAt withVoter
+row-voted t p j i q l d pos m =
+    let u = set t p (withVoter (at t p) j) in
+    let g = grown-vote t p j l in
+    let up : at u (parentOf u q) .name ≡ at t (parentOf t q) .name =
+    ap (λ (x : ℕ). at u x .name) (grown-parent g q m) ∙ g .name (parentOf t q) (omega (arith, parent-below t q pos)) in
+    let row : Block → List ℕ → List ℕ = λ b n. message proposalHeard (pick (hasVoter b i) 1 0) (b .epoch .0) (b .name) n (b .payload) in
+    let own : hasVoter (withVoter (at t p) j) i ≡ hasVoter (at t p) i = voter-was (at t p) j i (λ e. d (sym e)) in
+    at-vote (λ b. row b (at u (parentOf u q) .name) ≡ row (at t q) (at t (parentOf t q) .name)) t p j q l
+    (λ e.
+    ap₂ (λ (v : Bool) (n : List ℕ). message proposalHeard (pick v 1 0) (at t p .epoch .0) (at t p .name) n (at t p .payload)) own up
+    ∙ ap (λ (x : ℕ). row (at t x) (at t (parentOf t q) .name)) (sym e))
+    (λ _. ap (row (at t q)) up) m
 
 -- past its end a table reads as its root
 all-whole : (t : List Block) → 0 < size t → ((q : ℕ) → q < size t → Whole (at t q)) → (q : ℕ) → Whole (at t q)
@@ -130,31 +161,38 @@ module _ (s : State) (places : length (s .blocks) ≡ suc capacity) (h : wellSha
             ]));
       }
 
-  -- a voter more: the row of its place
-  touches-vote : {u : State} (p j voted : ℕ) → p < size (rows s) → u ≡ withVote s p j voted → Touches s u i p
+  -- a voter more
+  touches-voter : {u : State} (p j voted x : ℕ) → p < size (rows s) → u ≡ withVote s p j voted → x ≤ s .count
+      → ((q : ℕ) → 0 < q → q ≢ x → q < size (rows s) → blockRow (set (rows s) p (withVoter (at (rows s) p) j)) i q ≡ blockRow (rows s) i q)
+      → Touches s u i x
   unfolding withVote
-  touches-vote {u} p j voted l e =
+  touches-voter {u} p j voted x l e low kept =
       let t = rows s in
       let after = set t p (withVoter (at t p) j) in
       let held : u .count ≡ s .count = ap (λ (x : State). x .count) e in
       let new : rows u ≡ after = ap rows e ∙ rows-voted s places h p j voted l in
       let long : size after ≡ size t = length-set t p (withVoter (at t p) j) in
       record {
-        low = omega (arith, has);
+        low = omega arith;
         most = omega (arith, shaped-count s h);
         more = omega arith;
-        others =
-            λ q pos d m. (
-              omega arith,
-              ap (λ (x : List Block). blockRow x i q) new
-                  ∙ row-kept (grown-vote t p j l) i q pos (omega (arith, has)) (at-set-other t p q (withVoter (at t p) j) (omega (arith, has)) d),
-            );
+        others = λ q pos d m. (omega arith, ap (λ (x : List Block). blockRow x i q) new ∙ kept q pos d (omega (arith, has)));
         whole =
             λ old.
             subst (λ (x : List Block). (q : ℕ) → Whole (at x q)) (sym new)
             (all-whole after (omega arith)
             (λ q m. at-vote Whole t p j q l (λ d. voter-whole (at t p) j (old p)) (λ d. old q) (omega arith)));
       }
+
+  -- the row of its place, ..
+  touches-vote : {u : State} (p j voted : ℕ) → p < size (rows s) → u ≡ withVote s p j voted → Touches s u i p
+  touches-vote p j voted l e =
+      touches-voter p j voted p l e (omega (arith, has))
+      (λ q pos d m. row-kept (grown-vote (rows s) p j l) i q pos m (at-set-other (rows s) p q (withVoter (at (rows s) p) j) m d))
+
+  -- .. or none, if it is another's
+  touches-other : {u : State} (p j voted : ℕ) → p < size (rows s) → j ≢ i → u ≡ withVote s p j voted → Touches s u i 0
+  touches-other p j voted l d e = touches-voter p j voted 0 l e (omega arith) (λ q pos _ m. row-voted (rows s) p j i q l d pos m)
 
   -- a clock: none
   touches-clock : {u : State} (p j c : ℕ) → p ≤ u .count → u ≡ withClock s j c → Touches s u i p
@@ -170,15 +208,18 @@ module _ (s : State) (places : length (s .blocks) ≡ suc capacity) (h : wellSha
         whole = λ old. subst (λ (x : List Block). (q : ℕ) → Whole (at x q)) (sym new) old;
       }
 
-  did-touches : {r : List ℕ} {u : State} → Did room s r u → Touches s u i (touched (kindOf r) (placeFor s r) (u .count))
+  did-touches : {r : List ℕ} {u : State} → Did room s r u → Touches s u i (touched i (kindOf r) (senderOf r) (placeFor s r) (u .count))
   did-touches {r} {u} (added b proposed kind w l e) =
-      subst (Touches s u i) (sym (touched-block r (placeFor s r) (u .count) kind))
+      subst (Touches s u i) (sym (touched-block i r (placeFor s r) (u .count) kind))
       (touches-block b proposed (record { name = w .sized .name; payload = w .sized .payload }) l e)
   did-touches {r} {u} (counted kind pos l below other e) =
-      subst (Touches s u i) (sym (touched-vote r (placeFor s r) (u .count) kind ∙ vote-place s r kind)) (touches-vote _ _ _ l e)
+      elim (ℕ-discrete (senderOf r) i) [
+        | yes m ↦ subst (Touches s u i) (sym (touched-vote i r (placeFor s r) (u .count) kind m ∙ vote-place s r kind)) (touches-vote _ _ _ l e)
+        | no d ↦ subst (Touches s u i) (sym (touched-other i r (placeFor s r) (u .count) kind d)) (touches-other _ _ _ l d e)
+      ]
   did-touches {r} {u} (cast kind l v e) =
-      subst (Touches s u i) (sym (touched-cast r (placeFor s r) (u .count) kind ∙ cast-place s r kind)) (touches-vote _ _ _ l e)
-  did-touches {r} {u} (clocked j c k2 k5 below e) = touches-clock _ j c (touched-within r (placeFor s r) (u .count) k2 k5) e
+      subst (Touches s u i) (sym (touched-cast i r (placeFor s r) (u .count) kind ∙ cast-place s r kind)) (touches-vote _ _ _ l e)
+  did-touches {r} {u} (clocked j c k2 k5 below e) = touches-clock _ j c (touched-within i r (placeFor s r) (u .count) k2 k5) e
 
 -- ---- a call
 
@@ -189,12 +230,12 @@ settled-touches w = record { low = w .low; most = w .most; more = w .more; other
 
 pub step-touches :
     (s : State) → length (s .blocks) ≡ suc capacity → wellShaped s ≡ true → (r : List ℕ) → taken (step s r lent .answer) ≡ true
-    → (i : ℕ) → Touches s (step s r lent .state) i (touched (kindOf r) (placeFor s r) (step s r lent .state .count))
+    → (i : ℕ) → Touches s (step s r lent .state) i (touched i (kindOf r) (senderOf r) (placeFor s r) (step s r lent .state .count))
 unfolding settled
 step-touches s places h r k i = go (step-stepped s r lent places h)
   where
-    go : Stepped room s r lent (step s r lent) → Touches s (step s r lent .state) i (touched (kindOf r) (placeFor s r) (step s r lent .state .count))
+    go : Stepped room s r lent (step s r lent) → Touches s (step s r lent .state) i (touched i (kindOf r) (senderOf r) (placeFor s r) (step s r lent .state .count))
     go (refused a e) = absurd (not-both k a)
     go (took a p d e) =
-        subst (λ (t : State). Touches s t i (touched (kindOf r) (placeFor s r) (t .count))) (sym e)
+        subst (λ (t : State). Touches s t i (touched i (kindOf r) (senderOf r) (placeFor s r) (t .count))) (sym e)
         (settled-touches (did-touches s places h i d))

@@ -87,7 +87,9 @@ unfoldable pub clashIn : List ℕ → List ℕ → Bool
 unfolding anyBelow rowOther
 clashIn book x = anyBelow bookRows (λ e. rowOther (rowAt book e) x)
 
--- the place whose row a taken record may change, by its kind, the place it was decided for and the count after it; 0 where it changes none
-unfoldable pub touched : ℕ → ℕ → ℕ → ℕ
+-- the place whose row at gateway i a taken record may change: by its kind and sender, the place it was decided for and the count after
+-- it; 0 where it changes none
+unfoldable pub touched : ℕ → ℕ → ℕ → ℕ → ℕ → ℕ
 unfolding pick
-touched kind place held = pick (eqb kind voteHeard || eqb kind castNow) place (pick (eqb kind proposalHeard || eqb kind proposeNow) held 0)
+touched i kind sender place held =
+    pick (eqb kind castNow || eqb kind voteHeard && eqb sender i) place (pick (eqb kind proposalHeard || eqb kind proposeNow) held 0)

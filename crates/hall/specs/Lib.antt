@@ -2,4 +2,5 @@
 pub mod Kept
 pub mod Book
 pub mod Lists
+pub mod Judged
 pub mod Play

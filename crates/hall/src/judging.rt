@@ -15,24 +15,19 @@ use table::Epoch;
 use table::NodeNo;
 use table::State;
 use table::rows::at;
-ghost use Prim.Native.Nat.{ℕ};
+ghost use Prim.Native.Nat.{_<_};
 ghost use mathlib.Core.Path.{_≡_};
 ghost use mathlib.Core.Bool.{_&&_, not, false};
-ghost use lib.Dec.{eqb};
 ghost use lib.ListN.{getD, length};
-ghost use Rattle.table.specs.Rows.{at, rows};
-ghost use Rattle.table.specs.Scan.{pick};
-ghost use Rattle.pala.specs.Answers.{number};
-ghost use Rattle.pala.specs.Record.{message, proposalHeard, voteHeard};
-ghost use Rattle.pala.specs.Rules.{freshest};
-ghost use Rattle.hall.specs.Book.{bookBytes, clashIn, shownIn};
+ghost use Rattle.hall.specs.Book.{bookBytes, shownIn};
+ghost use Rattle.hall.specs.Judged.{clashedIn, judged, judgedOwn};
 
 // "20 receiver not an honest node"
-pub const RECEIVER: u32 = 20;
+const RECEIVER: u32 = 20;
 // "21 a vote heard under an honest number whose own table doesn't show that vote"
 const FORGED: u32 = 21;
 // "22 kind 1 or 4 whose name stands in some honest node's table with another epoch, parent or payload"
-pub const CLASH: u32 = 22;
+const CLASH: u32 = 22;
 
 // Is a vote under an honest number whose own table doesn't show it.
 fn forged(book: &[u8], honest: [bool; 8], who: u32, name: [u8; 32]) -> bool
@@ -48,30 +43,28 @@ fn forged(book: &[u8], honest: [bool; 8], who: u32, name: [u8; 32]) -> bool
 // Does the name of a proposal stand in some honest table for another block.
 fn clash(book: &[u8], f: Fields, epoch: Epoch, parent: [u8; 32]) -> bool
     requires { ⌜ length (now book) ≡ bookBytes ⌝ }
-    ensures { λ r. ⌜ r ≡ clashIn (now (book .entry)) (message proposalHeard 0 (epoch .0) (f .name) parent (f .payload)) ⌝ }
+    ensures { λ r. ⌜ r ≡ clashedIn (now (book .entry)) f (epoch .0) parent ⌝ }
 {
     let name = f.name;
     let payload = f.payload;
+    let own = Fields {
+        name: name,
+        parent: parent,
+        payload: payload,
+        epoch: epoch,
+        sender: NodeNo(0),
+        kind: PROPOSAL_HEARD,
+        clean: true,
+    };
     let mut row = [0u8; RECORD_BYTES];
-    write(
-        &mut row,
-        Fields {
-            name: name,
-            parent: parent,
-            payload: payload,
-            epoch: epoch,
-            sender: NodeNo(0),
-            kind: PROPOSAL_HEARD,
-            clean: true,
-        },
-    );
+    write(&mut row, own);
     clashes(book, &row)
 }
 
 // The answer to a record as far as it asks nothing of its receiver's table: 20, 21, 22 for kind 1, else what was decided.
 pub fn judge(book: &[u8], honest: [bool; 8], to: u32, d: Decision) -> u32
     requires { ⌜ length (now book) ≡ bookBytes ⌝ }
-    ensures { λ r. ⌜ r ≡ pick (not (getD honest to false)) 20 (pick (eqb (d .fields .kind) voteHeard && getD honest (d .fields .sender .0) false && not (shownIn (now (book .entry)) (d .fields .sender .0) (d .fields .name))) 21 (pick (eqb (d .fields .kind) proposalHeard && clashIn (now (book .entry)) (message proposalHeard 0 (d .fields .epoch .0) (d .fields .name) (d .fields .parent) (d .fields .payload))) 22 (number (d .answer)))) ⌝ }
+    ensures { λ r. ⌜ r ≡ judged (now (book .entry)) honest to d ⌝ }
 {
     if !honest_at(honest, to) {
         return RECEIVER;
@@ -97,13 +90,15 @@ pub fn judge(book: &[u8], honest: [bool; 8], to: u32, d: Decision) -> u32
 // The answer to a record of kind 4, which would add a block of its receiver's local epoch on its freshest block.
 pub fn judge_own(book: &[u8], s: State, f: Fields, told: u32) -> u32
     requires { ⌜ length (now book) ≡ bookBytes ⌝ }
-    ensures { λ r. ⌜ r ≡ pick (eqb told 20) told (pick (clashIn (now (book .entry)) (message proposalHeard 0 (s .local .0) (f .name) (at (rows s) (freshest (s .n) (rows s)) .name) (f .payload))) 22 told) ⌝ }
+    ensures { λ r. ⌜ (r ≡ judgedOwn (now (book .entry)) s f told) × (s .local .0 < 4294967296) ⌝ }
 {
     if told == RECEIVER {
         return told;
     }
-    let top = at(s, freshest(s));
-    let parent = top.name;
+    let top = freshest(s);
+    let place = top.place;
+    let b = at(s, place);
+    let parent = b.name;
     if clash(book, f, s.local, parent) {
         return CLASH;
     }

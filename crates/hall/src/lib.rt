@@ -2,6 +2,7 @@
 // It relies on `node` for the step, on `lists` for the final lists and on `lines` for the text; its promises cite `accord`.
 // What a record asks of the other gateways is read from lent bytes beside the states, so that one record copies one state.
 
+mod beside;
 mod book;
 mod chains;
 pub mod heads;

@@ -1,22 +1,16 @@
 // A hall's recording, piece by piece: each piece is played from the hall and the record number that the last one left.
 
-use crate::book::enter_place;
-use crate::book::fill;
-use crate::chains::agree;
-use crate::chains::list;
-use crate::chains::list_all;
+use crate::beside::move_on;
+use crate::beside::set_out;
 use crate::judging::judge;
 use crate::judging::judge_own;
 use crate::seats::hall_shaped;
 use crate::seats::seat;
 use accord::Hall;
 use lines::words::put_worded;
-use node::Decision;
 use node::decide_shaped;
 use node::take_shaped;
 use record::RECORD_BYTES;
-use record::kinds::CAST_NOW;
-use record::kinds::PROPOSAL_HEARD;
 use record::kinds::PROPOSE_NOW;
 use table::Answer;
 ghost use Prim.Native.Nat.{_+_, _/_, _<_, min};
@@ -26,7 +20,7 @@ ghost use lib.ListN.{length, replicate};
 ghost use Rattle.table.specs.Scan.{pick};
 ghost use Rattle.lines.specs.Text.{Lined, wordedAt};
 ghost use Rattle.accord.specs.Text.{noWord, yesWord};
-ghost use Rattle.hall.specs.Book.{bookBytes, touched};
+ghost use Rattle.hall.specs.Book.{bookBytes};
 ghost use Rattle.hall.specs.Lists.{listsBytes};
 ghost use Rattle.hall.specs.Play.{HallPiece, HallReady, hallPiece, playHall};
 
@@ -75,23 +69,6 @@ fn wide(b: u8) -> u32
     b as u32
 }
 
-// The place whose row a taken record changes; 0 where it changes none.
-fn touched_by(d: Decision, count: u32) -> u32
-    ensures { λ r. ⌜ r ≡ touched (d .fields .kind) (d .place .0) count ⌝ }
-{
-    let kind = d.fields.kind;
-    if kind == CAST_NOW {
-        return d.place.0;
-    }
-    if kind == PROPOSAL_HEARD {
-        return count;
-    }
-    if kind == PROPOSE_NOW {
-        return count;
-    }
-    0
-}
-
 // "After each record the program prints its number, the answer and yes or no"
 fn put_said(text: &mut [u8], at: usize, k: u64, told: u32, word: bool) -> usize
     ensures { λ r. ⌜ _≡_ {A = Lined} (record { length = r; text = now (text .exit) }) (wordedAt k told (pick word yesWord noWord) at (now (text .entry))) ⌝ }
@@ -114,11 +91,9 @@ fn play_records(
     requires { ⌜ HallReady h before (now input) (now text) × (now book ≡ replicate bookBytes 0) × (length (now lists) ≡ listsBytes) ⌝ }
     ensures { λ r. ⌜ _≡_ {A = HallPiece} (record { answer = r .answer; hall = r .hall; before = r .before; length = r .length; text = now (text .exit) }) (hallPiece Answer.Taken h before (now (input .entry)) (now (text .entry))) ⌝ }
 {
-    fill(book, h);
-    let mut counts = list_all(lists, h);
+    let mut beside = set_out(h, book, lists);
     let honest = h.honest;
     let n = h.n;
-    let mut word = agree(lists, counts, honest);
     let mut hall = h;
     let mut k = before;
     let mut from: usize = 0;
@@ -136,18 +111,11 @@ fn play_records(
         }
         if told == 0 {
             let kept = hall.states[i].kept.0;
-            hall.states[i] = take_shaped(hall.states[i], d);
-            let p = touched_by(d, hall.states[i].count);
-            if 0 < p {
-                enter_place(book, i, hall.states[i], p);
-            }
-            if hall.states[i].kept.0 != kept {
-                let count = list(lists, i, hall.states[i]);
-                counts[i] = count;
-                word = agree(lists, counts, honest);
-            }
+            let t = take_shaped(hall.states[i], d);
+            beside = move_on(book, lists, beside, honest, i, t, d, kept);
+            hall.states[i] = t;
         }
-        end = put_said(text, end, k, told, word);
+        end = put_said(text, end, k, told, beside.word);
         from += size;
     }
     Told {

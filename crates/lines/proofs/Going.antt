@@ -2,36 +2,55 @@
 use Prim.Native.Nat.{ℕ, suc, _+_, _-_, _*_, _≤_, _<_, min}
 use mathlib.Core.List.{List, [], _∷_, _++_, append-assoc, append-nil}
 use mathlib.Core.Path.{_≡_, refl, sym, ap, _∙_}
-use native.Mathlib.Nat.{zero-add}
+use native.Mathlib.Nat.{zero-add, mul-suc}
 use native.Mathlib.Numerals.{add-one}
 use native.Mathlib.Omega.{arith}
 use lib.ListN.{length, drop, drop-of-length-le}
-use Rattle.table.specs.declared.Answer.{Answer}
-use Rattle.table.specs.declared.State.{State}
-use Rattle.table.specs.Scan.{pick}
-use Rattle.pala.specs.Answers.{number, taken}
-use Rattle.pala.specs.Lines.{lineOf, lines}
-use Rattle.pala.specs.Record.{recordBytes}
-use Rattle.pala.specs.Run.{stretches, played, lent}
-use Rattle.pala.specs.Step.{step}
-use Rattle.pala.proofs.Stretches.{stretches-none, part, next-stretch}
-use Rattle.lines.specs.Play.{Piece, piece, lastNumber}
-use Rattle.lines.specs.Text.{Put, lineMost}
+use Rattle.pala.specs.Run.{cut}
+use Rattle.pala.proofs.Stretches.{cut-none, part, next-cut}
+use Rattle.lines.specs.Play.{lastNumber}
+use Rattle.lines.specs.Text.{written, Put}
 use Rattle.lines.proofs.Laws.{put-then, put-as, put-length, written-none}
-use Rattle.lines.proofs.Records.{Recorded}
+
+-- records, stretches of one size, played one after the other: what follows each, and its line, no longer than the longest
+pub record Tale (X : Type 0) : Type 0 where
+  pub size : ℕ
+  pub most : ℕ
+  pub some : 1 ≤ size
+  pub after : X → List ℕ → X
+  pub line : X → ℕ → List ℕ → List ℕ
+  pub last : X → List (List ℕ) → X
+  pub text : X → ℕ → List (List ℕ) → List ℕ
+  pub last-none : (x : X) → last x [] ≡ x
+  pub last-more : (x : X) (r : List ℕ) (more : List (List ℕ)) → last x (r ∷ more) ≡ last (after x r) more
+  pub text-none : (x : X) (k : ℕ) → text x k [] ≡ []
+  pub text-more : (x : X) (k : ℕ) (r : List ℕ) (more : List (List ℕ)) → text x k (r ∷ more) ≡ line x (suc k) r ++ text (after x r) (suc k) more
+
+-- one record played: what follows it, and its line put into the text
+pub record Recorded {X : Type 0} (T : Tale X) (x : X) (k : ℕ) (r text : List ℕ) (end : ℕ) (y : X) (past : ℕ) (later : List ℕ) : Type 0 where
+  pub state : y ≡ T .after x r
+  pub line : Put text end (T .line x k r) past later
+  pub short : past ≤ end + T .most
 
 -- at an index of the input: `done` is written, and what is left of the input gives the rest
-pub record Going (s : State) (before : ℕ) (input text₀ : List ℕ) (t : State) (k from end : ℕ) (text : List ℕ) : Type 0 where
+pub record Going {X : Type 0} (T : Tale X) (x : X) (before : ℕ) (input text₀ : List ℕ) (y : X) (k from end : ℕ) (text : List ℕ) : Type 0 where
   pub done : List ℕ
   pub put : Put text₀ 0 done end text
   pub within : from ≤ length input
-  pub fits : end + lineMost * length (stretches (drop from input)) ≤ length text₀
-  pub number : k + length (stretches (drop from input)) ≡ before + length (stretches input)
-  pub states : played t (stretches (drop from input)) ≡ played s (stretches input)
-  pub texts : done ++ lines t k (stretches (drop from input)) ≡ lines s before (stretches input)
+  pub fits : end + T .most * length (cut (T .size) (drop from input)) ≤ length text₀
+  pub number : k + length (cut (T .size) (drop from input)) ≡ before + length (cut (T .size) input)
+  pub states : T .last y (cut (T .size) (drop from input)) ≡ T .last x (cut (T .size) input)
+  pub texts : done ++ T .text y k (cut (T .size) (drop from input)) ≡ T .text x before (cut (T .size) input)
 
-module _ {s : State} {before : ℕ} {input text₀ : List ℕ} where
-  pub going-start : lineMost * length (stretches input) ≤ length text₀ → Going s before input text₀ s before 0 0 text₀
+-- a piece played to its end
+pub record Gone {X : Type 0} (T : Tale X) (x : X) (before : ℕ) (input text₀ : List ℕ) (y : X) (k end : ℕ) (text : List ℕ) : Type 0 where
+  pub state : y ≡ T .last x (cut (T .size) input)
+  pub number : k ≡ before + length (cut (T .size) input)
+  pub ends : end ≡ length (T .text x before (cut (T .size) input))
+  pub holds : text ≡ written text₀ 0 (T .text x before (cut (T .size) input))
+
+module _ {X : Type 0} (T : Tale X) {x : X} {before : ℕ} {input text₀ : List ℕ} where
+  pub going-start : T .most * length (cut (T .size) input) ≤ length text₀ → Going T x before input text₀ x before 0 0 text₀
   going-start room =
       record {
         done = [];
@@ -43,62 +62,63 @@ module _ {s : State} {before : ℕ} {input text₀ : List ℕ} where
         texts = refl;
       }
 
-  module _ {t : State} {k from end : ℕ} {text : List ℕ} (g : Going s before input text₀ t k from end text) where
+  module _ {y : X} {k from end : ℕ} {text : List ℕ} (g : Going T x before input text₀ y k from end text) where
     pub going-next :
-        {u : State} {size end′ : ℕ} {text′ : List ℕ} → from < length input → size ≡ min (length input - from) recordBytes
-        → Recorded t (k + 1) (part input from size) text end u end′ text′ → Going s before input text₀ u (k + 1) (from + size) end′ text′
-    unfolding played lines
-    going-next {u} {size} l e r =
+        {z : X} {size past : ℕ} {later : List ℕ} → from < length input → size ≡ min (length input - from) (T .size)
+        → Recorded T y (k + 1) (part input from size) text end z past later → Going T x before input text₀ z (k + 1) (from + size) past later
+    going-next {z} {size} l e r =
         let rec : List ℕ = part input from size in
-        let rest : List (List ℕ) = stretches (drop (from + size) input) in
-        let parts : stretches (drop from input) ≡ rec ∷ rest = next-stretch input from size l e in
-        let many : length (stretches (drop from input)) ≡ suc (length rest) = ap length parts in
-        let line : List ℕ = lineOf (k + 1) (step t rec lent .answer) (step t rec lent .state) in
+        let rest : List (List ℕ) = cut (T .size) (drop (from + size) input) in
+        let parts : cut (T .size) (drop from input) ≡ rec ∷ rest = next-cut (T .size) (T .some) input from size l e in
+        let many : length (cut (T .size) (drop from input)) ≡ suc (length rest) = ap length parts in
+        let room : T .most * length (cut (T .size) (drop from input)) ≡ T .most * length rest + T .most = ap (λ (n : ℕ). T .most * n) many ∙ mul-suc (T .most) (length rest) in
+        let line : List ℕ = T .line y (k + 1) rec in
         record {
           done = g .done ++ line;
           put = put-then (omega (arith, r .line .ends, r .short, g .put .ends, g .fits)) (g .put) (r .line);
-          within = omega arith;
+          within = omega (arith, T .some);
           fits = omega (arith, r .short, g .fits);
           number = omega (arith, g .number);
           states =
-              ap (λ (x : State). played x rest) (r .state)
-              ∙ ap (λ (x : List (List ℕ)). played t x) (sym parts)
+              ap (λ (w : X). T .last w rest) (r .state)
+              ∙ sym (T .last-more y rec rest)
+              ∙ ap (T .last y) (sym parts)
               ∙ g .states;
           texts =
-              ap (λ (x : State). g .done ++ line ++ lines x (k + 1) rest) (r .state)
-              ∙ append-assoc (g .done) line (lines (step t rec lent .state) (k + 1) rest)
-              ∙ ap (λ (n : ℕ). g .done ++ (lineOf n (step t rec lent .answer) (step t rec lent .state) ++ lines (step t rec lent .state) n rest)) (add-one k)
-              ∙ ap (λ (x : List (List ℕ)). g .done ++ lines t k x) (sym parts)
+              ap (λ (w : X). g .done ++ line ++ T .text w (k + 1) rest) (r .state)
+              ∙ append-assoc (g .done) line (T .text (T .after y rec) (k + 1) rest)
+              ∙ ap (λ (n : ℕ). g .done ++ (T .line y n rec ++ T .text (T .after y rec) n rest)) (add-one k)
+              ∙ ap (λ (l : List ℕ). g .done ++ l) (sym (T .text-more y k rec rest) ∙ ap (T .text y k) (sym parts))
               ∙ g .texts;
         }
 
-    some-left : from < length input → 0 < length (stretches (drop from input))
-    some-left l = omega (arith, ap length (next-stretch input from (min (length input - from) recordBytes) l refl))
+    some-left : from < length input → 0 < length (cut (T .size) (drop from input))
+    some-left l = omega (arith, ap length (next-cut (T .size) (T .some) input from (min (length input - from) (T .size)) l refl))
 
     -- there is a number for the next record, and room for its line
-    pub going-numbered : from < length input → before + length (stretches input) ≤ lastNumber → k < lastNumber
+    pub going-numbered : from < length input → before + length (cut (T .size) input) ≤ lastNumber → k < lastNumber
     going-numbered l h = omega (arith, some-left l, g .number)
 
     pub going-length : length text ≡ length text₀
     going-length = put-length (omega (arith, g .put .ends, g .fits)) (g .put)
 
-    pub going-room : from < length input → end + lineMost ≤ length text
-    going-room l = omega (arith, going-length, some-left l, g .fits)
-
-    none-left : length input ≤ from → stretches (drop from input) ≡ []
-    none-left l = ap (λ (x : List ℕ). stretches x) (drop-of-length-le input {i = from} l) ∙ stretches-none
+    pub going-room : from < length input → end + T .most ≤ length text
+    going-room l = omega (arith, going-length, g .fits, at-least (T .most) _ (some-left l))
+      where
+        at-least : (m n : ℕ) → 0 < n → m ≤ m * n
+        at-least m (suc n) h = omega (arith, mul-suc m n)
 
     -- at the end of the input the piece is played
-    pub going-end :
-        length input ≤ from
-        → _≡_ {A = Piece} (record { answer = Answer.Taken; state = t; before = k; length = end; text = text }) (piece Answer.Taken s before input text₀)
-    unfolding piece pick taken number played lines
+    pub going-end : length input ≤ from → Gone T x before input text₀ y k end text
     going-end l =
-        let none : stretches (drop from input) ≡ [] = none-left l in
-        let count : length (stretches (drop from input)) ≡ 0 = ap length none in
-        let state : t ≡ played s (stretches input) = ap (λ (x : List (List ℕ)). played t x) (sym none) ∙ g .states in
-        let number : k ≡ before + length (stretches input) = omega (arith, g .number) in
-        let all : Put text₀ 0 (lines s before (stretches input)) end text =
-        put-as (sym (append-nil (g .done)) ∙ ap (λ (x : List (List ℕ)). g .done ++ lines t k x) (sym none) ∙ g .texts) (g .put) in
-        let ends : end ≡ length (lines s before (stretches input)) = all .ends ∙ zero-add (length (lines s before (stretches input))) in
-        λ i. record { answer = Answer.Taken; state = state i; before = number i; length = ends i; text = all .holds i }
+        let none : cut (T .size) (drop from input) ≡ [] = ap (cut (T .size)) (drop-of-length-le input {i = from} l) ∙ cut-none (T .size) (T .some) in
+        let count : length (cut (T .size) (drop from input)) ≡ 0 = ap length none in
+        let rest : T .text y k (cut (T .size) (drop from input)) ≡ [] = ap (T .text y k) none ∙ T .text-none y k in
+        let all : Put text₀ 0 (T .text x before (cut (T .size) input)) end text =
+        put-as (sym (append-nil (g .done)) ∙ ap (λ (l : List ℕ). g .done ++ l) (sym rest) ∙ g .texts) (g .put) in
+        record {
+          state = sym (T .last-none y) ∙ ap (T .last y) (sym none) ∙ g .states;
+          number = omega (arith, g .number);
+          ends = all .ends ∙ zero-add (length (T .text x before (cut (T .size) input)));
+          holds = all .holds;
+        }

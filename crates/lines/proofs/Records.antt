@@ -23,9 +23,11 @@ use Rattle.node.proofs.Calls.{decided-answer}
 use Rattle.lines.specs.Text.{Put, Room, lineMost}
 use Rattle.lines.proofs.Laws.{line-most, put-as}
 use Rattle.lines.proofs.Turns.{Turned}
+use Rattle.lines.proofs.Going.{Recorded}
+use Rattle.lines.proofs.Recording.{recording}
 
--- every answer's number has at most two digits
-pub number-few : (a : Answer) → number a < 100
+-- the answers' numbers are 0 to 15
+pub number-few : (a : Answer) → number a < 16
 unfolding number
 number-few Answer.Taken = lit< tt
 number-few Answer.State = lit< tt
@@ -73,16 +75,11 @@ module _ {a : Answer} {t : State} {answer local bar names : ℕ} (n : Numbers a 
 pub room-line : (text : List ℕ) (end : ℕ) (l : List ℕ) → end + lineMost ≤ length text → length (spaced l) ≤ lineMost → Room text end l
 room-line text end l h short = record { fits = omega arith }
 
--- one record played: the state after it, and its line, which is no longer than the longest, put into the text
-pub record Recorded (s : State) (k : ℕ) (r text : List ℕ) (end : ℕ) (t : State) (past : ℕ) (after : List ℕ) : Type 0 where
-  pub state : t ≡ step s r lent .state
-  pub line : Put text end (lineOf k (step s r lent .answer) (step s r lent .state)) past after
-  pub short : past ≤ end + lineMost
-
+-- so the record is played and its line put
 pub recorded :
     {s u : State} {r text after : List ℕ} {end past : ℕ} {d : Decision} {k answer local bar names some : ℕ} → wellShaped s ≡ true
     → d ≡ decision s r → Turned s r u some → Numbers (d .answer) u answer local bar names → k < 2 ^ 64
-    → Put text end (spaced (k ∷ answer ∷ local ∷ bar ∷ names ∷ [])) past after → Recorded s k r text end u past after
+    → Put text end (spaced (k ∷ answer ∷ local ∷ bar ∷ names ∷ [])) past after → Recorded recording s k r text end u past after
 recorded {s} {u} {r} {d = d} {k = k} shaped e t n h p =
     let told : d .answer ≡ step s r lent .answer = ap (λ (x : Decision). x .answer) e ∙ decided-answer s r shaped in
     record {

@@ -27,8 +27,8 @@ cast-number : tie.Need-cast-number
 cast-number c = search needs
 
 -- the answer's number has two digits at most
-few : (c : tie.After-number-of) → c .number-of .result < 100
-few c = subst (λ n. n < 100) (sym (c .number-of .ensures)) (number-few Answer.Setup)
+few : (c : tie.After-number-of) → c .number-of .result < 16
+few c = subst (λ n. n < 16) (sym (c .number-of .ensures)) (number-few Answer.Setup)
 
 put-number-requires : tie.Need-put-number-requires
 put-number-requires c κs =

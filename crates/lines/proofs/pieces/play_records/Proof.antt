@@ -10,7 +10,8 @@ use Rattle.table.proofs.Laws.{length-unmap}
 use Rattle.pala.specs.Run.{stretches}
 use Rattle.pala.proofs.Stretches.{part}
 use Rattle.lines.specs.Play.{lastNumber}
-use Rattle.lines.proofs.Going.{Going, going-start, going-next, going-numbered, going-length, going-room, going-end}
+use Rattle.lines.proofs.Going.{Going, going-next, going-numbered, going-length, going-room, going-end}
+use Rattle.lines.proofs.Recording.{recording, recording-start, recording-end}
 use Rattle.lines.proofs.Records.{Numbers, numbers-short, room-line, recorded}
 use Rattle.lines.proofs.Turns.{Counted, Turned, turn-taken, turn-refused, turn-as}
 use Rattle.lines.proofs.pieces.play_records.Statement.{statement}
@@ -18,7 +19,7 @@ use Rattle.lines.proofs.pieces.play_records.Tie as tie
 
 abbrev Inv-loop : tie.InvT-loop
 Inv-loop before input text₀ t₀ k₀ from₀ end₀ names₀ text t k from end names =
-    Counted t names × (before + length (stretches input) ≤ lastNumber) × Going t₀ before input text₀ t k from end text
+    Counted t names × (before + length (stretches input) ≤ lastNumber) × Going recording t₀ before input text₀ t k from end text
 
 abbrev μ-loop : tie.MeasureT-loop
 μ-loop before input text₀ t₀ k₀ from₀ end₀ names₀ text t k from end names = length input - from
@@ -32,7 +33,7 @@ final-count-requires c κs = search needs
 loop-holds : tie.Need-loop-holds Inv-loop μ-loop
 loop-holds c =
     let s = c .before .before .before in
-    (record { playable = record { places = held s; shaped = s .pre .shaped }; counted = c .final-count .ensures }, s .pre .number, going-start (s .pre .fits))
+    (record { playable = record { places = held s; shaped = s .pre .shaped }; counted = c .final-count .ensures }, s .pre .number, recording-start (s .pre .fits))
 
 sub-stretch : tie.Need-sub-stretch Inv-loop μ-loop
 sub-stretch c = omega arith
@@ -42,7 +43,8 @@ stretch-requires c κs = search needs
 
 -- there is a number for the record
 numbered : (c : tie.In-loop Inv-loop μ-loop) → c .before .loop .k < lastNumber
-numbered c = going-numbered (c .before .loop .inv .2) (c .loop-test .taken) (c .before .loop .inv .1)
+unfolding stretches
+numbered c = going-numbered recording (c .before .loop .inv .2) (c .loop-test .taken) (c .before .loop .inv .1)
 
 add-k : tie.Need-add-k Inv-loop μ-loop
 add-k c = omega (arith, numbered (c .before))
@@ -133,7 +135,7 @@ module _ (c : tie.After-wide4 Inv-loop μ-loop) where
 
 put-line-requires : tie.Need-put-line-requires Inv-loop μ-loop
 put-line-requires c κs =
-    room-line _ _ _ (going-room (head (met c) .loop .inv .2) (inside (met c) .loop-test .taken))
+    room-line _ _ _ (going-room recording (head (met c) .loop .inv .2) (inside (met c) .loop-test .taken))
     (numbers-short (numbers c) _ (number-fits c) (turned (met c) .after .playable .shaped))
 
 add-from : tie.Need-add-from Inv-loop μ-loop
@@ -148,15 +150,15 @@ loop-again c =
     let l = head (met w) .loop in (
       turned (met w) .after,
       l .inv .1,
-      going-next (l .inv .2) (inside (met w) .loop-test .taken) (sized (met w) .stretch .ensures)
+      going-next recording (l .inv .2) (inside (met w) .loop-test .taken) (sized (met w) .stretch .ensures)
           (recorded (l .inv .0 .playable .shaped) (decided (met w) .decide-shaped .ensures) (turned (met w)) (numbers w) (number-fits w) (c .before .before .put-line .ensures)),
     )
 
 same-length : tie.Need-same-length Inv-loop μ-loop
-same-length c = going-length (c .before .loop .inv .2)
+same-length c = going-length recording (c .before .loop .inv .2)
 
 returns : tie.Need-returns Inv-loop μ-loop
-returns c = going-end (c .before .loop .inv .2) (c .loop-test .left)
+returns c = recording-end (going-end recording (c .before .loop .inv .2) (c .loop-test .left))
 
 pub play-records-spec : {M : Type 1} → statement M
 play-records-spec =
