@@ -10,10 +10,10 @@ use lines::ends::put_setup;
 use node::answers::is_taken;
 ghost use Prim.Native.Nat.{_≤_};
 
-// A piece of the recording: 4,096 records, each after its receiver's byte, and room for as many of the longest lines.
-const PIECE_BYTES: usize = 397312;
+// A piece of the recording: 2,048 records, each after its receiver's byte, and room for as many of the longest lines.
+const PIECE_BYTES: usize = 198656;
 
-const TEXT_BYTES: usize = 188416;
+const TEXT_BYTES: usize = 94208;
 // Room for the only line of a refused recording.
 const LINE_BYTES: usize = 32;
 
@@ -26,7 +26,7 @@ struct Going {
 
 // How much of the text to print: its length, which `play` promises to be within the buffer.
 fn within(length: usize) -> usize
-    ensures { λ r. ⌜ r ≤ 188416 ⌝ }
+    ensures { λ r. ⌜ r ≤ 94208 ⌝ }
 {
     if length < TEXT_BYTES {
         length

@@ -12,7 +12,6 @@ use Rattle.pala.specs.Lists.{finalNames, joined}
 use Rattle.pala.specs.Record.{recordBytes, kindOf, senderOf}
 use Rattle.pala.specs.Run.{fullList, lent}
 use Rattle.pala.specs.Shape.{wellShaped}
-use Rattle.pala.specs.Step.{step}
 use Rattle.pala.proofs.Playing.{Playable, step-playable, names-stay}
 use Rattle.record.specs.declared.Fields.{Fields}
 use Rattle.record.specs.Fields.{fieldsOf}

@@ -1,6 +1,6 @@
 -- A row of the book: how code searches for one, what it tells, and what writing one changes. Assumes nothing.
 use Prim.Native.Nat.{ℕ, suc, _+_, _*_, _-_, _%_, _≤_, _<_, min}
-use mathlib.Core.Bool.{Bool, true, false, not, _&&_, _||_}
+use mathlib.Core.Bool.{Bool, true, false, not, _&&_, _||_, and-false}
 use mathlib.Core.List.{List, _++_, append-assoc}
 use mathlib.Core.Logic.{_≢_}
 use mathlib.Core.Path.{_≡_, refl, sym, ap, ap₂, subst, _∙_}
@@ -16,7 +16,7 @@ use Rattle.table.specs.declared.State.{State}
 use Rattle.table.specs.Scan.{pick}
 use Rattle.table.specs.Bytes.{same}
 use Rattle.table.specs.Rows.{capacity, nameBytes, payloadBytes, rows, at, hasVoter}
-use Rattle.table.proofs.Laws.{not-both, pick-yes, pick-case, at-rows}
+use Rattle.table.proofs.Laws.{not-both, pick-yes, pick-case, at-rows, same-differs}
 use Rattle.pala.specs.Record.{recordBytes, kindOf, senderOf, nameOf, message, proposalHeard}
 use Rattle.pala.specs.Rules.{epochAt, lower, parentOf}
 use Rattle.pala.proofs.Sent.{message-length}
@@ -64,6 +64,14 @@ module _ (row name : List ℕ) where
 module _ (row x : List ℕ) where
   abbrev one-name : Bool
   one-name = same (take nameBytes (drop 8 row)) (take nameBytes (drop 8 x))
+
+  pub other-no-byte : (getD row 8 0 ≡ getD x 8 0 → ⊥) → rowOther row x ≡ false
+  unfolding rowOther rowNamed nameOf
+  other-no-byte h =
+      let first : (r : List ℕ) → getD (take nameBytes (drop 8 r)) 0 0 ≡ getD r 8 0 = λ r. getD-take nameBytes (drop 8 r) 0 0 (omega arith) ∙ getD-drop 8 r 0 0 in
+      let names : one-name ≡ false = same-differs (take nameBytes (drop 8 row)) (take nameBytes (drop 8 x)) 0 (λ e. h (sym (first row) ∙ e ∙ first x)) in
+      ap (λ (t : Bool). eqb (kindOf row) 1 && t && not (same (drop 4 row) (drop 4 x))) names
+      ∙ ap (λ (t : Bool). t && not (same (drop 4 row) (drop 4 x))) (and-false (eqb (kindOf row) 1))
 
   pub other-no-block : (kindOf row ≡ 1 → ⊥) → rowOther row x ≡ false
   unfolding rowOther rowNamed

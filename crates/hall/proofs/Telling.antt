@@ -1,5 +1,5 @@
 -- A hall's recording: the line of each record, and a piece from its start to its end. Assumes nothing.
-use Prim.Native.Nat.{ℕ, suc, _+_, _-_, _*_, _^_, _≤_, _<_, min}
+use Prim.Native.Nat.{ℕ, suc, _+_, _-_, _^_, _≤_, _<_}
 use mathlib.Core.Bool.{Bool, true, false}
 use mathlib.Core.List.{List, [], _∷_, _++_}
 use mathlib.Core.Path.{_≡_, refl, sym, ap, _∙_}
@@ -11,9 +11,8 @@ use lib.Seq.{drop-cons}
 use Rattle.table.specs.declared.Answer.{Answer}
 use Rattle.table.specs.Scan.{pick}
 use Rattle.pala.specs.Answers.{number, taken}
-use Rattle.pala.specs.Run.{cut}
 use Rattle.pala.proofs.Stretches.{part}
-use Rattle.lines.specs.Text.{Lined, wordedAt, numbersMost}
+use Rattle.lines.specs.Text.{Lined, wordedAt}
 use Rattle.lines.proofs.Going.{Tale, Gone, Recorded}
 use Rattle.lines.proofs.Laws.{put-as}
 use Rattle.lines.proofs.Records.{number-few}

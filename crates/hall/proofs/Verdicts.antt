@@ -15,14 +15,13 @@ use Rattle.table.specs.declared.Place.{Place}
 use Rattle.table.specs.declared.State.{State}
 use Rattle.table.specs.Scan.{pick}
 use Rattle.table.specs.Rows.{nameBytes, payloadBytes, rows, at}
-use Rattle.table.proofs.Laws.{pick-yes, pick-no, pick-case, fails}
-use Rattle.pala.specs.Answers.{number, taken}
-use Rattle.pala.specs.Record.{recordBytes, kindOf, senderOf, epochOf, nameOf, parentNameOf, payloadOf, is, message, proposalHeard, voteHeard, proposeNow}
+use Rattle.table.proofs.Laws.{pick-yes, pick-no, pick-case}
+use Rattle.pala.specs.Answers.{number}
+use Rattle.pala.specs.Record.{recordBytes, kindOf, senderOf, epochOf, nameOf, parentNameOf, payloadOf, is, proposalHeard, voteHeard, proposeNow}
 use Rattle.pala.specs.Rules.{freshest}
 use Rattle.pala.specs.Run.{lent}
 use Rattle.pala.specs.Shape.{wellShaped}
 use Rattle.pala.specs.Step.{step}
-use Rattle.pala.proofs.Shapes.{shaped-local}
 use Rattle.pala.proofs.Tests.{and-r, or-l, or-r, either}
 use Rattle.record.specs.declared.Fields.{Fields}
 use Rattle.record.specs.Fields.{fieldsOf, noFields}
@@ -36,7 +35,7 @@ use Rattle.accord.specs.Head.{mostGateways, gateway, honestIn}
 use Rattle.accord.specs.Rulings.{Content, anyBelow, tableOf, shows, otherwise, forged, clash, contentOf, verdict, verdictNumber}
 use Rattle.accord.proofs.Halls.{honest-below}
 use Rattle.hall.specs.Kept.{Kept}
-use Rattle.hall.specs.Book.{Pages, clashIn, shownIn}
+use Rattle.hall.specs.Book.{Pages}
 use Rattle.hall.specs.Judged.{forgedIn, clashedIn, judged, judgedOwn, toldBy}
 use Rattle.hall.proofs.Pages.{shown-is, clash-is}
 

@@ -76,11 +76,14 @@ fn row_shows(row: &[u8], name: [u8; 32]) -> bool
     same_bytes(&row[NAME_AT..PARENT_AT], &name)
 }
 
-// Does a row hold another block under the name of x, which is laid out as it.
+// Does a row hold another block under the name of x, which is laid out as it; most rows differ in the name's first byte.
 fn row_other(row: &[u8], x: &[u8]) -> bool
     requires { ⌜ (length (now row) ≡ recordBytes) × (length (now x) ≡ recordBytes) ⌝ }
     ensures { λ r. ⌜ r ≡ rowOther (now (row .entry)) (now (x .entry)) ⌝ }
 {
+    if row[NAME_AT] != x[NAME_AT] {
+        return false;
+    }
     if row[KIND_AT] != HELD {
         return false;
     }

@@ -88,9 +88,9 @@ pub fn judge(book: &[u8], honest: [bool; 8], to: u32, d: Decision) -> u32
 }
 
 // The answer to a record of kind 4, which would add a block of its receiver's local epoch on its freshest block.
-pub fn judge_own(book: &[u8], s: State, f: Fields, told: u32) -> u32
+pub fn judge_own(book: &[u8], s: State, d: Decision, told: u32) -> u32
     requires { ⌜ length (now book) ≡ bookBytes ⌝ }
-    ensures { λ r. ⌜ (r ≡ judgedOwn (now (book .entry)) s f told) × (s .local .0 < 4294967296) ⌝ }
+    ensures { λ r. ⌜ (r ≡ judgedOwn (now (book .entry)) s (d .fields) told) × (s .local .0 < 4294967296) ⌝ }
 {
     if told == RECEIVER {
         return told;
@@ -99,6 +99,7 @@ pub fn judge_own(book: &[u8], s: State, f: Fields, told: u32) -> u32
     let place = top.place;
     let b = at(s, place);
     let parent = b.name;
+    let f = d.fields;
     if clash(book, f, s.local, parent) {
         return CLASH;
     }

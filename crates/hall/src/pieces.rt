@@ -15,7 +15,6 @@ use record::kinds::PROPOSE_NOW;
 use table::Answer;
 ghost use Prim.Native.Nat.{_+_, _/_, _<_, min};
 ghost use mathlib.Core.Path.{_≡_};
-ghost use mathlib.Core.Bool.{Bool};
 ghost use lib.ListN.{length, replicate};
 ghost use Rattle.table.specs.Scan.{pick};
 ghost use Rattle.lines.specs.Text.{Lined, wordedAt};
@@ -41,6 +40,18 @@ pub struct Told {
     pub hall: Hall,
     pub before: u64,
     pub length: usize,
+}
+
+// The same from its parts; a refusal hands back the hall as it came, and no text.
+fn handed(answer: Answer, hall: Hall, before: u64, length: usize) -> Told
+    ensures { λ r. ⌜ r ≡ record { answer = answer; hall = hall; before = before; length = «length» } ⌝ }
+{
+    Told {
+        answer: answer,
+        hall: hall,
+        before: before,
+        length: length,
+    }
 }
 
 // A receiver and its record, the last as long as what is left.
@@ -106,8 +117,7 @@ fn play_records(
         let d = decide_shaped(hall.states[i], &input[from + 1..from + size]);
         let mut told = judge(book, honest, to, d);
         if d.fields.kind == PROPOSE_NOW {
-            let f = d.fields;
-            told = judge_own(book, hall.states[i], f, told);
+            told = judge_own(book, hall.states[i], d, told);
         }
         if told == 0 {
             let kept = hall.states[i].kept.0;
@@ -118,24 +128,7 @@ fn play_records(
         end = put_said(text, end, k, told, beside.word);
         from += size;
     }
-    Told {
-        answer: Answer::Taken,
-        hall: hall,
-        before: k,
-        length: end,
-    }
-}
-
-// A refusal: the hall and the buffer come back the same.
-fn refused(answer: Answer, h: Hall, before: u64) -> Told
-    ensures { λ r. ⌜ r ≡ record { answer = answer; hall = h; before = before; length = 0 } ⌝ }
-{
-    Told {
-        answer: answer,
-        hall: h,
-        before: before,
-        length: 0,
-    }
+    handed(Answer::Taken, hall, k, end)
 }
 
 // A piece of a recording played on a hall, of which `before` records came earlier; every hall, input and buffer is answered.
@@ -143,14 +136,14 @@ pub fn play(h: Hall, before: u64, input: &[u8], text: &mut [u8]) -> Told
     ensures { λ r. ⌜ _≡_ {A = HallPiece} (record { answer = r .answer; hall = r .hall; before = r .before; length = r .length; text = now (text .exit) }) (playHall h before (now (input .entry)) (now (text .entry))) ⌝ }
 {
     if !hall_shaped(h) {
-        return refused(Answer::State, h, before);
+        return handed(Answer::State, h, before, 0);
     }
     let count = stretch_count(input.len());
     if text.len() / LINE_MOST < count {
-        return refused(Answer::Length, h, before);
+        return handed(Answer::Length, h, before, 0);
     }
     if LAST_NUMBER - (count as u64) < before {
-        return refused(Answer::Full, h, before);
+        return handed(Answer::Full, h, before, 0);
     }
     let mut book = [0u8; BOOK_BYTES];
     let mut lists = [0u8; LISTS_BYTES];

@@ -46,16 +46,19 @@ pub fn find(s: State, name: [u8; 32]) -> Found
     ensures { λ r. ⌜ r ≡ record { place = record { 0 = find (rows s) name }; block = at (rows s) (find (rows s) name) } ⌝ }
 {
     let end = size_of(s.count);
+    let first = name[0];
     let mut k: u32 = 0;
     while k < end {
         let i = k as usize;
         let b = s.blocks[i];
         let held = b.name;
-        if same_name(held, name) {
-            return Found {
-                place: Place(k),
-                block: b,
-            };
+        if held[0] == first {
+            if same_name(held, name) {
+                return Found {
+                    place: Place(k),
+                    block: b,
+                };
+            }
         }
         k += 1;
     }

@@ -3,15 +3,24 @@ use mathlib.Core.Bool.{not}
 use mathlib.Core.Path.{sym, ap, _∙_}
 use borrow.Author.Needs.{needs}
 use borrow.Author.Tests.{not-false, not-true}
-use Rattle.hall.proofs.Rows.{other-no-block, other-no-name, other-rest}
+use Rattle.hall.proofs.Rows.{other-no-byte, other-no-block, other-no-name, other-rest}
 use Rattle.hall.proofs.book.row_other.Statement.{statement}
 use Rattle.hall.proofs.book.row_other.Tie as tie
 
 shared-slice-read-if1 : tie.Need-shared-slice-read-if1
 shared-slice-read-if1 c = search needs
 
+shared-slice-read-if1-2 : tie.Need-shared-slice-read-if1-2
+shared-slice-read-if1-2 c = search needs
+
 returns : tie.Need-returns
-returns c = sym (other-no-block _ _ (c .if1 .taken))
+returns c = sym (other-no-byte _ _ (c .if1 .taken))
+
+shared-slice-read-if2 : tie.Need-shared-slice-read-if2
+shared-slice-read-if2 c = search needs
+
+returns-2 : tie.Need-returns-2
+returns-2 c = sym (other-no-block _ _ (c .if2 .taken))
 
 sub-same-bytes : tie.Need-sub-same-bytes
 sub-same-bytes c = search needs
@@ -34,10 +43,10 @@ part-same-bytes-end-2 c = search needs
 same-bytes-requires : tie.Need-same-bytes-requires
 same-bytes-requires c κs = search needs
 
-returns-2 : tie.Need-returns-2
-returns-2 c =
+returns-3 : tie.Need-returns-3
+returns-3 c =
     let names = c .before in
-    sym (other-no-name _ _ (names .before .before .before .if1 .left) (sym (names .same-bytes .ensures) ∙ not-true _ (c .if2 .taken)))
+    sym (other-no-name _ _ (names .before .before .before .if2 .left) (sym (names .same-bytes .ensures) ∙ not-true _ (c .if3 .taken)))
 
 sub-same-bytes-3 : tie.Need-sub-same-bytes-3
 sub-same-bytes-3 c = search needs
@@ -60,21 +69,24 @@ part-same-bytes-end-4 c = search needs
 same-bytes-requires-2 : tie.Need-same-bytes-requires-2
 same-bytes-requires-2 c κs = search needs
 
-returns-3 : tie.Need-returns-3
-returns-3 c =
+returns-4 : tie.Need-returns-4
+returns-4 c =
     let differs = c .before .before .before in
     let names = differs .before in
     let kind = names .before .before .before in
-    let sizes = kind .before .before .before .before .pre in
+    let sizes = kind .before .before .before .before .before .before .before .pre in
     ap not (c .same-bytes2 .ensures)
-    ∙ sym (other-rest _ _ (kind .if1 .left) (sym (names .same-bytes .ensures) ∙ not-false _ (differs .if2 .left)) (sizes .0) (sizes .1))
+    ∙ sym (other-rest _ _ (kind .if2 .left) (sym (names .same-bytes .ensures) ∙ not-false _ (differs .if3 .left)) (sizes .0) (sizes .1))
 
 pub row-other-spec : {M : Type 1} → statement M
 row-other-spec =
     tie.close
     (tie.spec
     shared-slice-read-if1
+    shared-slice-read-if1-2
     returns
+    shared-slice-read-if2
+    returns-2
     sub-same-bytes
     part-same-bytes-start
     part-same-bytes-end
@@ -82,7 +94,7 @@ row-other-spec =
     part-same-bytes-start-2
     part-same-bytes-end-2
     same-bytes-requires
-    returns-2
+    returns-3
     sub-same-bytes-3
     part-same-bytes-start-3
     part-same-bytes-end-3
@@ -90,4 +102,4 @@ row-other-spec =
     part-same-bytes-start-4
     part-same-bytes-end-4
     same-bytes-requires-2
-    returns-3)
+    returns-4)

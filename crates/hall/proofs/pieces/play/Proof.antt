@@ -24,14 +24,14 @@ piece s x = record { answer = x .answer; hall = x .hall; before = x .before; len
 hall-shaped-requires : tie.Need-hall-shaped-requires
 hall-shaped-requires c κs = search needs
 
-refused-requires : tie.Need-refused-requires
-refused-requires c κs = search needs
+handed-requires : tie.Need-handed-requires
+handed-requires c κs = search needs
 
 returns : tie.Need-returns
 returns c =
     let t = c .before .before in
     let s = t .before .before .before in
-    ap (piece s) (c .refused .ensures)
+    ap (piece s) (c .handed .ensures)
     ∙ sym (piece-unshaped (s .args .h) (s .args .before) (now (s .args .input)) (now (s .args .text)) (sym (t .hall-shaped .ensures .0) ∙ not-true _ (c .before .if1 .taken)))
 
 stretch-count-requires : tie.Need-stretch-count-requires
@@ -47,27 +47,27 @@ shaped c = sym (c .before .before .hall-shaped .ensures .0) ∙ not-false _ (c .
 many : (c : tie.After-stretch-count) → c .stretch-count .result ≡ length (cut sentBytes (now (start c .args .input)))
 many c = c .stretch-count .ensures ∙ sym (sent-count (now (start c .args .input)))
 
-refused-requires-2 : tie.Need-refused-requires-2
-refused-requires-2 c κs = search needs
+handed-requires-2 : tie.Need-handed-requires-2
+handed-requires-2 c κs = search needs
 
 returns-2 : tie.Need-returns-2
 returns-2 c =
     let k = c .before .before in
     let s = start k in
-    ap (piece s) (c .refused2 .ensures)
+    ap (piece s) (c .handed2 .ensures)
     ∙ sym (piece-short (s .args .h) (s .args .before) (now (s .args .input)) (now (s .args .text)) (shaped k) (omega (arith, many k)))
 
 sub-if3 : tie.Need-sub-if3
 sub-if3 c = search needs
 
-refused-requires-3 : tie.Need-refused-requires-3
-refused-requires-3 c κs = search needs
+handed-requires-3 : tie.Need-handed-requires-3
+handed-requires-3 c κs = search needs
 
 returns-3 : tie.Need-returns-3
 returns-3 c =
     let k = c .before .before .before in
     let s = start k in
-    ap (piece s) (c .refused3 .ensures)
+    ap (piece s) (c .handed3 .ensures)
     ∙ sym (piece-over (s .args .h) (s .args .before) (now (s .args .input)) (now (s .args .text)) (shaped k) (omega (arith, many k)) (omega (arith, many k)))
 
 slice-aggregate-play-records : tie.Need-slice-aggregate-play-records
@@ -103,13 +103,13 @@ play-spec =
     tie.close
     (tie.spec
     hall-shaped-requires
-    refused-requires
+    handed-requires
     returns
     stretch-count-requires
-    refused-requires-2
+    handed-requires-2
     returns-2
     sub-if3
-    refused-requires-3
+    handed-requires-3
     returns-3
     slice-aggregate-play-records
     slice-aggregate-play-records-2

@@ -1,5 +1,5 @@
 -- Each record is decided and judged; a taken one moves its receiver's state and what stands beside it; each gets its line.
-use Prim.Native.Nat.{ℕ, _+_, _-_, _^_, _<_, _≤_}
+use Prim.Native.Nat.{ℕ, _+_, _-_, _<_, _≤_}
 use borrow.Author.Needs.{needs}
 use denote.Ref.{now}
 use lib.Dec.{ltb}
@@ -20,13 +20,13 @@ use Rattle.node.specs.Moves.{decision}
 use Rattle.lines.specs.Play.{lastNumber}
 use Rattle.lines.proofs.Going.{Going, going-start, going-next, going-numbered, going-length, going-room, going-end}
 use Rattle.accord.specs.declared.Hall.{Hall}
-use Rattle.accord.specs.Head.{gateway, honestIn}
+use Rattle.accord.specs.Head.{gateway}
 use Rattle.accord.specs.Rulings.{seated, verdict, verdictNumber}
 use Rattle.accord.specs.Text.{sentBytes}
 use Rattle.hall.specs.Book.{bookBytes}
 use Rattle.hall.specs.Judged.{toldBy}
-use Rattle.hall.specs.Kept.{Kept}
-use Rattle.hall.specs.Play.{Live, Moving}
+use Rattle.hall.specs.declared.pieces.Told.{Told}
+use Rattle.hall.specs.Play.{HallPiece, Live, Moving}
 use Rattle.hall.proofs.Judged.{told-own, told-other}
 use Rattle.hall.proofs.Seated.{gateway-read}
 use Rattle.hall.proofs.Telling.{hallTale, hall-end, hall-recorded, sent-to, sent-record}
@@ -160,13 +160,13 @@ judge-requires c κs = live (c .before .before .before .before) .pages .long
 -- ---- the answer
 
 mul-judge-own : tie.Need-mul-judge-own Inv-loop μ-loop
-mul-judge-own c = record { fits = omega (arith, low (c .before .before .before .before .before .before .before .before .before)) }
+mul-judge-own c = record { fits = omega (arith, low (c .before .before .before .before .before .before .before .before)) }
 
 element-copy-out-judge-own : tie.Need-element-copy-out-judge-own Inv-loop μ-loop
-element-copy-out-judge-own c = low (c .before .before .before .before .before .before .before .before .before)
+element-copy-out-judge-own c = low (c .before .before .before .before .before .before .before .before)
 
 judge-own-requires : tie.Need-judge-own-requires Inv-loop μ-loop
-judge-own-requires c κs = live (c .before .before .before .before .before .before .before .before .before .before) .pages .long
+judge-own-requires c κs = live (c .before .before .before .before .before .before .before .before .before) .pages .long
 
 -- from where it is told back to the seat
 abbrev sat : tie.Joined1 Inv-loop μ-loop → tie.After-seat Inv-loop μ-loop
@@ -187,13 +187,13 @@ epoch-low c = search needs
 
 local-low : (c : tie.Joined1 Inv-loop μ-loop) → verdictOf c .fields .kind ≡ proposeNow → gateway (hall (sat c)) (sat c .seat .result) .local .0 < 4294967296
 local-low c e =
-    ⊎-elim (λ w. subst (λ s. s .local .0 < 4294967296) (reads (sat c)) (w .4 .ensures .1)) (λ w. absurd (w .0 .left e)) (c .if1 .came)
+    ⊎-elim (λ w. subst (λ s. s .local .0 < 4294967296) (reads (sat c)) (w .3 .ensures .1)) (λ w. absurd (w .0 .left e)) (c .if1 .came)
 
 told : (c : tie.Joined1 Inv-loop μ-loop) → c .if1 .told ≡ toldBy (head (sat c) .loop .book) (honest c) (to (sat c)) (state (sat c)) (verdictOf c)
 told c =
     let judges = c .before .before .judge .ensures in
     ⊎-elim
-    (λ w. w .5 ∙ told-own (head (sat c) .loop .book) (honest c) (to (sat c)) (state (sat c)) (verdictOf c) judges (w .0 .taken) (w .4 .ensures .0))
+    (λ w. w .4 ∙ told-own (head (sat c) .loop .book) (honest c) (to (sat c)) (state (sat c)) (verdictOf c) judges (w .0 .taken) (w .3 .ensures .0))
     (λ w. w .1 ∙ told-other (head (sat c) .loop .book) (honest c) (to (sat c)) (state (sat c)) (verdictOf c) judges (w .0 .left))
     (c .if1 .came)
 
@@ -297,17 +297,23 @@ loop-again c =
           (going-room hallTale (l .inv .4) (inside a .loop-test .taken)) (omega (arith, numbered (inside a))) (q .put-said .ensures)),
     )
 
+handed-requires : tie.Need-handed-requires Inv-loop μ-loop
+handed-requires c κs = search needs
+
 same-length : tie.Need-same-length Inv-loop μ-loop
-same-length c = going-length hallTale (c .before .loop .inv .4)
+same-length c = going-length hallTale (c .before .before .loop .inv .4)
 
 same-length-2 : tie.Need-same-length-2 Inv-loop μ-loop
-same-length-2 c = c .before .loop .inv .0 .pages .long ∙ sym (ap length (start (c .before) .pre .1) ∙ length-replicate {A = ℕ} bookBytes 0)
+same-length-2 c = c .before .before .loop .inv .0 .pages .long ∙ sym (ap length (start (c .before .before) .pre .1) ∙ length-replicate {A = ℕ} bookBytes 0)
 
 same-length-3 : tie.Need-same-length-3 Inv-loop μ-loop
-same-length-3 c = c .before .loop .inv .0 .listed .fit .long ∙ sym (start (c .before) .pre .2)
+same-length-3 c = c .before .before .loop .inv .0 .listed .fit .long ∙ sym (start (c .before .before) .pre .2)
 
 returns : tie.Need-returns Inv-loop μ-loop
-returns c = hall-end (going-end hallTale (c .before .loop .inv .4) (c .loop-test .left))
+returns c =
+    let l = c .before .before .loop in
+    ap {B = HallPiece} (λ (x : Told). record { answer = x .answer; hall = x .hall; before = x .before; length = x .length; text = l .text }) (c .handed .ensures)
+    ∙ hall-end (going-end hallTale (l .inv .4) (c .before .loop-test .left))
 
 pub play-records-spec : {M : Type 1} → statement M
 play-records-spec =
@@ -347,6 +353,7 @@ play-records-spec =
     add-from
     loop-less
     loop-again
+    handed-requires
     same-length
     same-length-2
     same-length-3
