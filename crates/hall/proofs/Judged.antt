@@ -18,7 +18,7 @@ use Rattle.record.specs.declared.Fields.{Fields}
 use Rattle.node.specs.declared.Decision.{Decision}
 use Rattle.accord.specs.Rulings.{verdictNumber}
 use Rattle.hall.specs.Book.{clashIn, shownIn}
-use Rattle.hall.specs.Judged.{forgedIn, clashedIn, judged, judgedOwn, toldBy}
+use Rattle.hall.specs.Judged.{forgedIn, clashedIn, judged, judgedOwn}
 
 -- a test that is asked of one kind only
 kind-yes : (kind j : ℕ) (b : Bool) → kind ≡ j → (eqb kind j && b) ≡ b
@@ -101,6 +101,12 @@ module _ (book : List ℕ) (s : State) (f : Fields) (told : ℕ) where
   own-told d e = sym (pick-no (eqb told 20) _ _ (ne-eqb told 20 d) ∙ pick-no clashesOwn _ _ e)
 
 -- ---- both
+
+-- the answer to a record of any kind, as the lent bytes tell it
+unfoldable pub toldBy : List ℕ → List Bool → ℕ → State → Decision → ℕ
+unfolding pick judged judgedOwn
+toldBy book honest to s d =
+    pick (eqb (d .fields .kind) proposeNow) (judgedOwn book s (d .fields) (judged book honest to d)) (judged book honest to d)
 
 module _ (book : List ℕ) (honest : List Bool) (to : ℕ) (s : State) (d : Decision) {told : ℕ} (e : told ≡ judged book honest to d) where
   pub told-own : {last : ℕ} → d .fields .kind ≡ proposeNow → last ≡ judgedOwn book s (d .fields) told → last ≡ toldBy book honest to s d

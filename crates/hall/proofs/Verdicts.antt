@@ -36,7 +36,8 @@ use Rattle.accord.specs.Rulings.{Content, anyBelow, tableOf, shows, otherwise, 
 use Rattle.accord.proofs.Halls.{honest-below}
 use Rattle.hall.specs.Kept.{Kept}
 use Rattle.hall.specs.Book.{Pages}
-use Rattle.hall.specs.Judged.{forgedIn, clashedIn, judged, judgedOwn, toldBy}
+use Rattle.hall.specs.Judged.{forgedIn, clashedIn, judged, judgedOwn}
+use Rattle.hall.proofs.Judged.{toldBy}
 use Rattle.hall.proofs.Pages.{shown-is, clash-is}
 
 -- where the first part of a test passes the second tells

@@ -8,7 +8,7 @@ use Rattle.table.specs.declared.State.{State}
 use Rattle.table.specs.Rows.{at, rows}
 use Rattle.table.specs.Scan.{pick}
 use Rattle.pala.specs.Answers.{number}
-use Rattle.pala.specs.Record.{message, proposalHeard, voteHeard, proposeNow}
+use Rattle.pala.specs.Record.{message, proposalHeard, voteHeard}
 use Rattle.pala.specs.Rules.{freshest}
 use Rattle.record.specs.declared.Fields.{Fields}
 use Rattle.node.specs.declared.Decision.{Decision}
@@ -42,9 +42,3 @@ unfolding pick clashedIn verdictNumber at rows freshest
 judgedOwn book s f told =
     pick (eqb told (verdictNumber Verdict.Receiver)) told
     (pick (clashedIn book f (s .local .0) (at (rows s) (freshest (s .n) (rows s)) .name)) (verdictNumber Verdict.Clash) told)
-
--- of any kind
-unfoldable pub toldBy : List ℕ → List Bool → ℕ → State → Decision → ℕ
-unfolding pick judged judgedOwn
-toldBy book honest to s d =
-    pick (eqb (d .fields .kind) proposeNow) (judgedOwn book s (d .fields) (judged book honest to d)) (judged book honest to d)

@@ -73,7 +73,7 @@ fn stretch_count(length: usize) -> usize
     }
 }
 
-// A byte, or an answer, among wider numbers.
+// A byte among the numbers of 32 bits.
 fn wide(b: u8) -> u32
     ensures { λ r. ⌜ (r ≡ b) × (r < 256) ⌝ }
 {

@@ -24,10 +24,9 @@ use Rattle.accord.specs.Head.{gateway}
 use Rattle.accord.specs.Rulings.{seated, verdict, verdictNumber}
 use Rattle.accord.specs.Text.{sentBytes}
 use Rattle.hall.specs.Book.{bookBytes}
-use Rattle.hall.specs.Judged.{toldBy}
 use Rattle.hall.specs.declared.pieces.Told.{Told}
 use Rattle.hall.specs.Play.{HallPiece, Live, Moving}
-use Rattle.hall.proofs.Judged.{told-own, told-other}
+use Rattle.hall.proofs.Judged.{told-own, told-other, toldBy}
 use Rattle.hall.proofs.Seated.{gateway-read}
 use Rattle.hall.proofs.Telling.{hallTale, hall-end, hall-recorded, sent-to, sent-record}
 use Rattle.hall.proofs.Turned.{Turned, Admitted, turn-refused, turn-taken, turn-as, turned-flags, admitted, admitted-taken}
