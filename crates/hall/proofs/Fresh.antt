@@ -8,16 +8,18 @@ use borrow.Author.Tests.{le-leb}
 use lib.Dec.{eqb, ltb, leb}
 use lib.ListN.{length, getD}
 use Rattle.table.specs.declared.Answer.{Answer}
+use Rattle.table.specs.declared.State.{State}
 use Rattle.table.specs.Scan.{allBelow}
 use Rattle.table.proofs.Laws.{pick-yes, pick-no, fails, not-both, allBelow-all}
 use Rattle.pala.specs.Shape.{wellShaped}
 use Rattle.pala.specs.Step.{start}
-use Rattle.pala.proofs.Calls.{start-shaped}
+use Rattle.pala.proofs.Calls.{start-shaped, start-sized}
 use Rattle.pala.proofs.Shapes
 use Rattle.accord.specs.Head.{Opened, mostGateways, gateways, nodesOf, inSet, goodHead, freshHall, noHall, opened, gateway, honestIn, hallShaped}
+use Rattle.accord.specs.Text.{hallPlayed}
 use Rattle.accord.proofs.Halls.{good-head, fresh-gateway, fresh-honest}
 use Rattle.hall.proofs.Parts.{below-alike}
-use Rattle.hall.proofs.Seated.{lowTest, hall-sound}
+use Rattle.hall.proofs.Seated.{lowTest, hall-sound, hall-kept, kept-played, kept-shaped}
 
 -- something for each of the eight numbers
 pub eight : {A : Type 0} (f : ℕ → A) {a b c d e g h i : A} → a ≡ f 0 → b ≡ f 1 → c ≡ f 2 → d ≡ f 3 → e ≡ f 4 → g ≡ f 5 → h ≡ f 6 → i ≡ f 7
@@ -115,6 +117,18 @@ module _ (bytes : List ℕ) where
       (λ i l.
       let nodes = Shapes.nodes-of n i (w .some, omega (arith, w .most), l) in
       ap wellShaped (fresh-gateway bytes i (omega (arith, w .most))) ∙ start-shaped n i nodes)
+
+-- a recording with a good head is never refused midway: after any records its hall is well shaped
+pub played-shaped : (bytes : List ℕ) → goodHead bytes ≡ true → (xs : List (List ℕ)) → hallShaped (hallPlayed (freshHall bytes) xs) ≡ true
+unfolding freshHall
+played-shaped bytes good xs =
+    let w = good-head bytes good in
+    kept-shaped
+    (kept-played
+    (hall-kept (freshHall bytes) refl refl
+    (λ i l. ap (λ (s : State). length (s .blocks)) (fresh-gateway bytes i (omega (arith, w .most))) ∙ start-sized (nodesOf bytes) i .blocks)
+    (opened-shaped bytes good))
+    xs)
 
 -- a refused head opens none that is well shaped
 pub no-hall-unshaped : hallShaped noHall ≡ false

@@ -5,18 +5,18 @@ use mathlib.Core.List.{List, [], _∷_}
 use mathlib.Core.Path.{_≡_, refl, sym, ap, subst, _∙_}
 use native.Mathlib.Decide.{decLt, ℕ-discrete}
 use native.Mathlib.Omega.{arith}
-use borrow.Author.Tests.{leb-true, le-leb, lt-leb, not-true}
+use borrow.Author.Tests.{leb-true, le-leb, lt-leb, lt-ltb, not-true}
 use lib.Dec.{ltb, leb}
 use lib.ListN.{length, getD, length-set}
 use Rattle.table.specs.declared.State.{State}
 use Rattle.table.specs.Rows.{capacity, allZero}
 use Rattle.table.specs.Scan.{allBelow}
-use Rattle.table.proofs.Laws.{fails, not-both, pick-case, getD-any, allBelow-at}
+use Rattle.table.proofs.Laws.{fails, not-both, pick-case, getD-any, allBelow-at, allBelow-all}
 use Rattle.pala.specs.Run.{lent}
 use Rattle.pala.specs.Shape.{wellShaped}
 use Rattle.pala.specs.Step.{step}
 use Rattle.pala.proofs.Playing.{step-playable}
-use Rattle.pala.proofs.Tests.{and-l, and-r}
+use Rattle.pala.proofs.Tests.{and-l, and-r, or-l, or-r}
 use Rattle.pala.proofs.Shapes
 use Rattle.accord.specs.declared.Hall.{Hall}
 use Rattle.accord.specs.Head.{mostGateways, gateway, honestIn, hallShaped}
@@ -154,3 +154,16 @@ module _ (h : Hall) where
         places = places;
         shaped = allBelow-at (h .n) (λ i. wellShaped (gateway h i)) (t .sound);
       }
+
+-- what a loop keeps is well shaped
+pub kept-shaped : {h : Hall} → Kept h → hallShaped h ≡ true
+kept-shaped {h} k = hall-sound h (k .some) (k .most) low ∙ allBelow-all (h .n) (λ i. wellShaped (gateway h i)) (k .shaped)
+  where
+    low : lowTest h ≡ true
+    low =
+        allBelow-all mostGateways (λ i. ltb i (h .n) || not (honestIn h i))
+        (λ i _.
+        elim (decLt i (h .n)) [
+          | yes l ↦ or-l (ltb i (h .n)) (not (honestIn h i)) (lt-ltb i (h .n) l)
+          | no l ↦ or-r (ltb i (h .n)) (not (honestIn h i)) (ap not (fails (honestIn h i) (λ y. l (k .low i y))))
+        ])
