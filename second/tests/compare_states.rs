@@ -5,7 +5,7 @@ mod programs;
 use std::io::Write;
 use std::process::{Command, Stdio};
 
-use programs::{printed, second, SECOND};
+use programs::{print_the_usage, printed, second, SECOND};
 
 use second::trials::cases::{case, write_cases};
 use second::trials::wire::{Case, Reply};
@@ -105,15 +105,10 @@ fn cases_and_step_cases_are_the_librarys() {
 
 #[test]
 fn other_words_print_the_usage() {
-    let calls: [&[&str]; 4] = [
+    print_the_usage(&[
         &["compare-states", "program", "1"],
         &["compare-states", "program", "many", "1"],
         &["cases", "-1", "1"],
         &["step-cases", "more"],
-    ];
-    for words in calls {
-        let output = second(words);
-        assert_eq!(output.status.code(), Some(2), "{words:?}");
-        assert!(output.stderr.starts_with(b"usage: second replay"));
-    }
+    ]);
 }

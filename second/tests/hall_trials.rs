@@ -2,7 +2,7 @@
 
 mod programs;
 
-use programs::{printed, program, second};
+use programs::{print_the_usage, printed, program, second};
 
 use second::hall::STRETCH_LEN;
 use second::record::RECORD_LEN;
@@ -230,7 +230,7 @@ fn the_commands_write_the_librarys_recordings() {
 
 #[test]
 fn other_words_print_the_usage() {
-    let calls: [&[&str]; 7] = [
+    print_the_usage(&[
         &["hall", "more"],
         &["hall-example"],
         &["hall-example", "other"],
@@ -238,12 +238,7 @@ fn other_words_print_the_usage() {
         &["compare-hall", "program", "1"],
         &["compare-hall", "program", "many", "1"],
         &["bench-hall"],
-    ];
-    for words in calls {
-        let output = second(words);
-        assert_eq!(output.status.code(), Some(2), "{words:?}");
-        assert!(output.stderr.starts_with(b"usage: second replay"));
-    }
+    ]);
 }
 
 #[cfg(debug_assertions)]

@@ -5,7 +5,7 @@ mod programs;
 use std::io::Write;
 use std::process::{Command, Stdio};
 
-use programs::{printed, second, SECOND};
+use programs::{print_the_usage, printed, second, SECOND};
 
 use second::record::RECORD_LEN;
 use second::state::MAX_BLOCKS;
@@ -143,19 +143,14 @@ fn a_long_recording_has_the_bytes_asked_for() {
 
 #[test]
 fn other_words_print_the_usage() {
-    let calls: [&[&str]; 6] = [
+    print_the_usage(&[
         &["compare-replay", "program", "1"],
         &["compare-replay", "program", "many", "1"],
         &["script", "-1", "1"],
         &["answers", "more"],
         &["bench"],
         &["long", "far"],
-    ];
-    for words in calls {
-        let output = second(words);
-        assert_eq!(output.status.code(), Some(2), "{words:?}");
-        assert!(output.stderr.starts_with(b"usage: second replay"));
-    }
+    ]);
 }
 
 #[cfg(debug_assertions)]

@@ -14,7 +14,7 @@ pub struct Hall {
     pub n: u32,
 }
 
-// What is answered to a record: 20, 21, 22, or what its receiver answered.
+// What is answered to a record: 20, 21, 22, or what its receiver answered. The definitions speak of it; code has its number.
 pub enum Verdict {
     Receiver,
     Forged,

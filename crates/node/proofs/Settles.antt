@@ -25,8 +25,8 @@ use Rattle.pala.proofs.Shapes.{shaped-epoch}
 use Rattle.rules.specs.declared.Standing.{Standing}
 use Rattle.rules.specs.declared.columns.Columns.{Columns}
 use Rattle.rules.specs.Columns.{columns}
-use Rattle.rules.specs.Standing.{standing, standingBy}
-use Rattle.rules.proofs.Shown.{standing-shown}
+use Rattle.rules.specs.Standing.{standingBy}
+use Rattle.rules.proofs.Shown.{standing, standing-shown}
 use Rattle.node.specs.declared.effects.Effect.{Effect}
 use Rattle.node.specs.Done.{done}
 

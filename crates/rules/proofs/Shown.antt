@@ -18,11 +18,24 @@ use Rattle.pala.specs.Rules.{epochAt, lower, fall, among, line, parentOf, notar
 use Rattle.pala.specs.Steps.{freshEpoch, forward}
 use Rattle.rules.specs.declared.columns.Columns.{Columns}
 use Rattle.rules.specs.Columns.{places, upTo, cell, numberAt, markAt, upOf, markOf, columns, firmBy, freshestBy, lastNormalBy, votableBy}
+use Rattle.rules.specs.declared.Standing.{Standing}
 use Rattle.rules.specs.declared.Top.{Top}
-use Rattle.rules.specs.Standing.{standing, standingBy}
+use Rattle.rules.specs.Standing.{standingBy}
 use Rattle.rules.proofs.Cells.{cell-upTo, made, made-end, made-start, made-step}
 
 -- ---- the columns of a state
+
+-- where a state stands before the five steps, by 01's rules
+unfoldable pub standing : State → Standing
+unfolding freshEpoch agreed candidate forward descends rows
+standing s =
+    record {
+      fresh = record { 0 = freshEpoch s };
+      clock = record { 0 = max (s .local .0) (agreed (s .n) (s .clocks)) };
+      candidate = record { 0 = candidate (s .n) (rows s) };
+      forward = forward s;
+      back = descends (rows s) (s .kept .0) (candidate (s .n) (rows s));
+    }
 
 module _ (s : State) (held : length (s .blocks) ≡ places) where
   pub size-le : size (rows s) ≤ places

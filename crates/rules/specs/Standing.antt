@@ -1,27 +1,12 @@
--- What the five steps need of a state.
+-- What the five steps need of a table's columns and of what stands beside it.
 use Prim.Native.Nat.{ℕ, max}
 use mathlib.Core.List.{List}
 use Rattle.table.specs.declared.Epoch.{Epoch}
-use Rattle.table.specs.declared.State.{State}
-use Rattle.table.specs.Rows.{rows}
-use Rattle.pala.specs.Rules.{lower, fall, among, agreed, candidate, descends}
-use Rattle.pala.specs.Steps.{freshEpoch, forward}
+use Rattle.pala.specs.Rules.{lower, fall, among, agreed}
 use Rattle.rules.specs.declared.Standing.{Standing}
 use Rattle.rules.specs.declared.columns.Columns.{Columns}
 use Rattle.rules.specs.Columns.{numberAt, markAt, freshestBy, lastNormalBy}
 
-unfoldable pub standing : State → Standing
-unfolding freshEpoch agreed candidate forward descends rows
-standing s =
-    record {
-      fresh = record { 0 = freshEpoch s };
-      clock = record { 0 = max (s .local .0) (agreed (s .n) (s .clocks)) };
-      candidate = record { 0 = candidate (s .n) (rows s) };
-      forward = forward s;
-      back = descends (rows s) (s .kept .0) (candidate (s .n) (rows s));
-    }
-
--- the same of a table's columns
 unfoldable pub standingBy : Columns → List Epoch → ℕ → ℕ → ℕ → Standing
 unfolding numberAt markAt freshestBy lastNormalBy lower fall among agreed
 standingBy c clocks n local kept =

@@ -12,6 +12,15 @@ pub fn second(words: &[&str]) -> Output {
     command.args(words).output().unwrap()
 }
 
+/// Each of these is none of the commands.
+pub fn print_the_usage(calls: &[&[&str]]) {
+    for words in calls {
+        let output = second(words);
+        assert_eq!(output.status.code(), Some(2), "{words:?}");
+        assert!(output.stderr.starts_with(b"usage: second replay"));
+    }
+}
+
 pub fn printed(output: &Output) -> &str {
     std::str::from_utf8(&output.stdout).unwrap()
 }

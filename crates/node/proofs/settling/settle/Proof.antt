@@ -10,7 +10,7 @@ use Rattle.pala.specs.Effects.{put}
 use Rattle.pala.specs.Steps.{freshEpoch, settled}
 use Rattle.pala.proofs.Shapes.{shaped-count}
 use Rattle.rules.specs.declared.Standing.{Standing}
-use Rattle.rules.specs.Standing.{standing}
+use Rattle.rules.proofs.Shown.{standing}
 use Rattle.node.specs.Done.{done}
 use Rattle.node.proofs.Calls.{granted-fresh}
 use Rattle.node.proofs.Settles.{done-rows, settles, stands}
