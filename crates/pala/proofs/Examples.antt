@@ -1,4 +1,4 @@
--- 01's torn case and each of its "Easy errors here", computed on the rules. Assumes nothing.
+-- 01's torn case, each of its "Easy errors here" and M-100's stuck hall, computed on the rules. Assumes nothing.
 use mathlib.Core.Path.{refl}
 use mathlib.Core.List.{List, [], _∷_, _++_}
 use Prim.Native.Nat.{ℕ}
@@ -56,6 +56,16 @@ moreThanHalf =
     ∷ play (vote 4 A ∷ []) ((theLocal, 2 ∷ []) ∷ (theBar, 1 ∷ []) ∷ [])
     ∷ []
 
+-- 02, M-100: "A hall stuck in epoch 7: two nodes' kept clock was 8, a third's had gone from 8 to 9."; it leaves epoch 7 at the second 8, and epoch 8 at the third 9
+stuckHall : List Case
+stuckHall =
+    play (session ++ (clock 1 7 ∷ clock 2 7 ∷ clock 3 7 ∷ [])) ((theLocal, 7 ∷ []) ∷ (theBar, 2 ∷ []) ∷ [])
+    ∷ play (clock 3 8 ∷ clock 3 9 ∷ clock 1 8 ∷ []) ((theAnswer, 0 ∷ []) ∷ (theLocal, 7 ∷ []) ∷ [])
+    ∷ play (clock 2 8 ∷ []) ((theAnswer, 0 ∷ []) ∷ (theLocal, 8 ∷ []) ∷ (theBar, 2 ∷ []) ∷ (theFinals, A) ∷ [])
+    ∷ play (clock 1 9 ∷ []) ((theAnswer, 0 ∷ []) ∷ (theLocal, 8 ∷ []) ∷ [])
+    ∷ play (clock 2 9 ∷ []) ((theAnswer, 0 ∷ []) ∷ (theLocal, 9 ∷ []) ∷ [])
+    ∷ []
+
 torn-holds : Holds 4 torn
 unfolding began shown musts session torn
 torn-holds = refl
@@ -79,3 +89,7 @@ other-epoch-holds = refl
 half-holds : Holds 5 moreThanHalf
 unfolding began shown musts moreThanHalf
 half-holds = refl
+
+stuck-hall-holds : Holds 4 stuckHall
+unfolding began shown musts session stuckHall
+stuck-hall-holds = refl

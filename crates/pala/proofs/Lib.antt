@@ -1,5 +1,6 @@
 -- The laws of the meaning that code cites, the cases of 01, computed, and demand 3.
 pub mod Counts
+pub mod Clocks
 pub mod Rows
 pub mod Cases
 pub mod Examples

@@ -70,11 +70,17 @@ unfoldable pub freshest : ℕ → List Block → ℕ
 unfolding highest firm epochAt
 freshest n t = highest (size t) (λ p. firm n t p) (λ p. epochAt t p)
 
--- "the number c, if any, that at least q nodes have as their kept clock"; 0 where there is none
-unfoldable pub shared : ℕ → List Epoch → ℕ → Bool
-unfolding quorum count clockOf
-shared n clocks c = leb (quorum n) (count n (λ i. eqb (clockOf clocks i) c))
+-- 02, M-100: a node has "a kept clock of c or more"
+unfoldable pub reached : List Epoch → ℕ → ℕ → Bool
+unfolding clockOf
+reached clocks c i = leb c (clockOf clocks i)
 
+-- "at least q nodes have a kept clock of c or more"
+unfoldable pub shared : ℕ → List Epoch → ℕ → Bool
+unfolding quorum count reached
+shared n clocks c = leb (quorum n) (count n (λ i. reached clocks c i))
+
+-- "the greatest c such that at least q nodes have a kept clock of c or more": one of the kept clocks, or 0
 unfoldable pub agreed : ℕ → List Epoch → ℕ
 unfolding greatest shared clockOf
 agreed n clocks = greatest n (λ i. shared n clocks (clockOf clocks i)) (λ i. clockOf clocks i)

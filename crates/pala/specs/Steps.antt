@@ -12,7 +12,7 @@ unfoldable pub freshEpoch : State → ℕ
 unfolding epochAt rows freshest
 freshEpoch s = epochAt (rows s) (freshest (s .n) (rows s))
 
--- "3. New local epoch: the greatest of the old one, the freshest epoch + 1, and the number c, if any, .."
+-- "3. New local epoch: the greatest of the old one, the freshest epoch + 1, and" (M-100) the agreed clock
 unfoldable pub newLocal : State → ℕ
 unfolding freshEpoch agreed
 newLocal s = max (max (s .local .0) (freshEpoch s + 1)) (agreed (s .n) (s .clocks))

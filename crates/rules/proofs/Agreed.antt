@@ -6,15 +6,15 @@ use mathlib.Core.Path.{_≡_, sym, ap, _∙_}
 use native.Mathlib.Decide.{decLe}
 use native.Mathlib.Numerals.{add-one}
 use native.Mathlib.Omega.{arith}
-use borrow.Author.Tests.{ne-eqb}
-use lib.Dec.{eqb, leb}
+use borrow.Author.Tests.{lt-leb}
+use lib.Dec.{leb}
 use lib.ListN.{length, List·getD-eq-default}
 use Rattle.table.specs.declared.Epoch.{Epoch}
 use Rattle.table.specs.Scan.{pick, count, greatest}
 use Rattle.table.specs.Rows.{mostNodes}
 use Rattle.table.proofs.Laws.{pick-yes, pick-case, count-no, greatest-step}
 use Rattle.pala.specs.Counts.{quorum, clockOf}
-use Rattle.pala.specs.Rules.{shared, agreed}
+use Rattle.pala.specs.Rules.{reached, shared, agreed}
 
 -- ---- the clocks
 
@@ -40,13 +40,13 @@ module _ (clocks : List Epoch) (held : length clocks ≡ mostNodes) where
   unfolding clockOf
   clock-past i h = ap (λ (e : Epoch). e .0) (List·getD-eq-default clocks (record { 0 = 0 }) (omega arith))
 
-  pub shared-held : (n c : ℕ) → 0 < c → leb (quorum n) (count (min n mostNodes) (λ i. eqb (clockOf clocks i) c)) ≡ shared n clocks c
-  unfolding shared
+  pub shared-held : (n c : ℕ) → 0 < c → leb (quorum n) (count (min n mostNodes) (λ i. reached clocks c i)) ≡ shared n clocks c
+  unfolding shared reached
   shared-held n c h =
-      let has : ℕ → Bool = λ i. eqb (clockOf clocks i) c in
+      let has : ℕ → Bool = λ i. reached clocks c i in
       ap (leb (quorum n))
       (settled (λ (k : ℕ). count k has) mostNodes
-      (λ i l. count-no i has (ne-eqb (clockOf clocks i) c (λ e. omega (arith, clock-past i l)))) n)
+      (λ i l. count-no i has (lt-leb c (clockOf clocks i) (omega (arith, clock-past i l)))) n)
 
   pub agreed-held : (n : ℕ) → greatest (min n mostNodes) (λ i. shared n clocks (clockOf clocks i)) (clockOf clocks) ≡ agreed n clocks
   unfolding agreed

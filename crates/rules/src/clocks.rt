@@ -1,15 +1,13 @@
-// "the number c, if any, that at least q nodes have as their kept clock"
+// "the greatest c such that at least q nodes have a kept clock of c or more"
 
 use crate::quorum::enough;
 use table::Epoch;
 use table::MOST_NODES;
 ghost use mathlib.Core.Path.{_≡_};
 ghost use Prim.Native.Nat.{_≤_, max, min};
-ghost use lib.Dec.{eqb};
 ghost use Rattle.table.specs.Rows.{mostNodes};
 ghost use Rattle.table.specs.Scan.{count, pick};
-ghost use Rattle.pala.specs.Counts.{clockOf};
-ghost use Rattle.pala.specs.Rules.{agreed, shared};
+ghost use Rattle.pala.specs.Rules.{agreed, reached, shared};
 
 // How many of the nodes have a clock that can be kept; an n above 32, which no state of 01 has, gives no more.
 fn clocks_held(n: u32) -> u32
@@ -21,10 +19,10 @@ fn clocks_held(n: u32) -> u32
     n
 }
 
-// How many nodes of the first `end` have c as their kept clock.
+// How many nodes of the first `end` have "a kept clock of c or more".
 fn holders(clocks: [Epoch; 32], end: u32, c: Epoch) -> u32
     requires { ⌜ end ≤ mostNodes ⌝ }
-    ensures { λ r. ⌜ r ≡ count end (λ i. eqb (clockOf clocks i) (c .0)) ⌝ }
+    ensures { λ r. ⌜ r ≡ count end (λ i. reached clocks (c .0) i) ⌝ }
 {
     let mut held: u32 = 0;
     let mut k: u32 = 0;
@@ -32,7 +30,7 @@ fn holders(clocks: [Epoch; 32], end: u32, c: Epoch) -> u32
         let i = k as usize;
         let mine = clocks[i].0;
         k += 1;
-        if mine != c.0 {
+        if mine < c.0 {
             continue;
         }
         held += 1;

@@ -6,12 +6,12 @@ use native.Mathlib.Omega.{arith}
 use borrow.Author.Needs.{needs}
 use borrow.Author.Tests.{not-true, not-false}
 use lib.ListN.{length}
-use lib.Dec.{eqb, leb}
+use lib.Dec.{leb}
 use Rattle.table.specs.Scan.{count}
 use Rattle.table.specs.Rows.{mostNodes}
 use Rattle.table.proofs.Laws.{not-both}
-use Rattle.pala.specs.Counts.{clockOf, quorum}
-use Rattle.pala.specs.Rules.{shared}
+use Rattle.pala.specs.Counts.{quorum}
+use Rattle.pala.specs.Rules.{reached, shared}
 use Rattle.rules.proofs.Agreed.{raised, shared-held, stays}
 use Rattle.rules.proofs.clocks.better.Statement.{statement}
 use Rattle.rules.proofs.clocks.better.Tie as tie
@@ -32,7 +32,7 @@ shared-is : (c : tie.After-enough)
 shared-is c =
     let s = c .before .before .before .before .before .before in
     let a = s .args in
-    let ok : ℕ → Bool = λ i. eqb (clockOf (a .clocks) i) (a .c .0) in
+    let ok : ℕ → Bool = λ i. reached (a .clocks) (a .c .0) i in
     c .enough .ensures
     ∙ ap (leb (quorum (a .n))) (c .before .holders .ensures ∙ ap (λ (k : ℕ). count k ok) (c .before .before .clocks-held .ensures))
     ∙ shared-held (a .clocks) (held s) (a .n) (a .c .0) (omega (arith, above c))
