@@ -14,11 +14,11 @@ use second::trials::cases::write_cases;
 use second::trials::compare::compare_replay;
 use second::trials::compare_hall::compare_hall;
 use second::trials::compare_states::compare_states;
-use second::trials::hall_examples::example;
 use second::trials::hall_load::{hall_load, HALL_NODES};
 use second::trials::load::{load, write_long, LOAD_NODES};
 use second::trials::script::{print_answers, write_script};
 use second::trials::wire::step_cases;
+use second::trials::{examples, hall_examples};
 use second::{hall, relation, replay, run, tail};
 
 const USAGE: &str = "usage: second replay < RECORDING
@@ -37,6 +37,7 @@ const USAGE: &str = "usage: second replay < RECORDING
        second recording 4|7|32 > RECORDING
        second hall-recording 4|8 > RECORDING
        second long BYTES > RECORDING
+       second example session|stuck > RECORDING
        second hall-example session|sharp|liar|late > RECORDING";
 /// The exit code of a command that isn't one of these.
 const USAGE_CODE: u8 = 2;
@@ -103,10 +104,8 @@ fn command(words: &[OsString], output: &mut impl Write) -> Result<(), Failure> {
         ("recording", [n]) => write_load(n, &LOAD_NODES, load, output)?,
         ("hall-recording", [n]) => write_load(n, &HALL_NODES, hall_load, output)?,
         ("long", [bytes]) => write_long(number(bytes)?, output)?,
-        ("hall-example", [name]) => {
-            let recording = name.to_str().and_then(example);
-            output.write_all(&recording.ok_or(Failure::Usage)?)?;
-        }
+        ("example", [name]) => write_example(name, examples::example, output)?,
+        ("hall-example", [name]) => write_example(name, hall_examples::example, output)?,
         _ => return Err(Failure::Usage),
     }
     Ok(())
@@ -147,6 +146,16 @@ fn write_load(
     let n = number(n)?;
     let known = counts.contains(&n);
     let recording = known.then(|| load(n)).ok_or(Failure::Usage)?;
+    Ok(output.write_all(&recording)?)
+}
+
+/// The example of this name.
+fn write_example(
+    name: &OsStr,
+    example: fn(&str) -> Option<Vec<u8>>,
+    output: &mut impl Write,
+) -> Result<(), Failure> {
+    let recording = name.to_str().and_then(example).ok_or(Failure::Usage)?;
     Ok(output.write_all(&recording)?)
 }
 

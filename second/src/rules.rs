@@ -1,6 +1,6 @@
 //! The rules that a state is read by. None of them changes it.
 
-use crate::state::{Epoch, NodeNo, Place, State, GENESIS, NO_EPOCH, ROWS};
+use crate::state::{Epoch, NodeNo, Place, State, GENESIS, MAX_NODES, NO_EPOCH, ROWS};
 
 /// "The least q with 3q at least 2n", worked out where 2n can't wrap.
 pub fn quorum(n: u32) -> u32 {
@@ -65,21 +65,22 @@ pub fn first_votable(state: &State) -> Option<Place> {
     places.find(|place| may_be_voted_for(state, &firm, *place))
 }
 
-/// The number, if any, that at least q nodes have as their kept clock. A quorum
-/// is more than half, so there is no second one. A kept clock of 0 is none.
-pub fn agreed_clock(state: &State) -> Option<Epoch> {
-    let clocks = || state.clocks.iter().take(state.n as usize);
-    let shared = |clock: &Epoch| clocks().filter(|other| *other == clock).count();
-    let mut kept = clocks().filter(|clock| **clock != NO_EPOCH);
-    kept.find(|clock| shared(clock) >= quorum(state.n) as usize)
-        .copied()
+/// "The greatest c such that at least q nodes have a kept clock of c or more": the
+/// q-th highest, and 0 where fewer than q have kept any.
+pub fn agreed_clock(state: &State) -> Epoch {
+    let nodes = MAX_NODES.min(state.n as usize);
+    let mut clocks = state.clocks;
+    let kept = &mut clocks[..nodes];
+    kept.sort_unstable();
+    let qth_highest = nodes.checked_sub(quorum(state.n) as usize);
+    let agreed = qth_highest.and_then(|index| kept.get(index));
+    agreed.copied().unwrap_or(NO_EPOCH)
 }
 
 /// "The greatest of the old one, the freshest epoch + 1, and the number c".
 pub fn new_local(state: &State, freshest: Place) -> Epoch {
     let after_freshest = state.row(freshest).epoch.next();
-    let agreed = agreed_clock(state).unwrap_or(NO_EPOCH);
-    state.local.max(after_freshest).max(agreed)
+    state.local.max(after_freshest).max(agreed_clock(state))
 }
 
 /// "A block is normal when its epoch is its parent's plus 1."
@@ -127,7 +128,7 @@ mod tests {
         for n in 1..=32 {
             let q = quorum(n);
             assert!(3 * q >= 2 * n && 3 * (q - 1) < 2 * n, "n = {n}");
-            assert!(2 * q > n, "n = {n}: two numbers can't both have a quorum");
+            assert!(2 * q > n, "n = {n}: any two quorums share a node");
         }
     }
 

@@ -34,6 +34,8 @@ fn every_answer_pair_and_clause_is_met() {
     assert!(tally.well_shaped > 2 * tally.badly_shaped(), "{tally}");
     assert!(tally.badly_shaped() > CASES / 5, "{tally}");
     assert!(tally.longest_list >= 60, "{tally}");
+    let mut rises = tally.rises.all();
+    assert!(rises.all(|(_, times)| times >= CASES / 100), "{tally}");
 }
 
 #[test]
@@ -64,9 +66,11 @@ fn handed_in_there_is_more_to_meet_than_from_a_start() {
 #[test]
 fn nothing_compared_misses_everything() {
     let missing = Tally::default().missing();
-    assert_eq!(missing.len(), 15 + Clause::ALL.len() + 5);
+    // 15 answers; the clauses; 3 rises of the local epoch; 3 events of the last step.
+    assert_eq!(missing.len(), 15 + Clause::ALL.len() + 3 + 3);
     assert!(missing.contains(&"answer 14".to_owned()));
     assert!(missing.contains(&"alone broken: local epoch at least 1".to_owned()));
+    assert!(missing.contains(&"the local epoch rose by clocks that differ".to_owned()));
     assert!(missing.contains(&"the state was torn".to_owned()));
 }
 

@@ -12,6 +12,19 @@ use second::{Block, Epoch, NodeNo, Place, State, Voters};
 /// All four nodes' votes.
 const ALL: Voters = Voters(0b1111);
 
+/// Quorums of the scope: n and q.
+const QUORUMS: [(u32, u8); 9] = [
+    (1, 1),
+    (2, 2),
+    (3, 2),
+    (4, 3),
+    (5, 4),
+    (6, 4),
+    (7, 5),
+    (31, 21),
+    (32, 22),
+];
+
 fn freshest_of(state: &State) -> Place {
     freshest(state, &Firm::of(state))
 }
@@ -35,6 +48,15 @@ fn state_of(local: u32, blocks: &[Block]) -> Node {
     node.state.count = blocks.len();
     assert!(second::well_shaped(&node.state));
     node
+}
+
+/// A state of node 0 that keeps these clocks, one of each node.
+fn keeping(clocks: &[u32]) -> State {
+    let mut state = Node::start(clocks.len() as u32, 0).state;
+    for (kept, clock) in state.clocks.iter_mut().zip(clocks) {
+        *kept = Epoch(*clock);
+    }
+    state
 }
 
 #[test]
@@ -110,18 +132,7 @@ fn kind_6_keeps_local_plus_1_as_own_clock() {
 
 #[test]
 fn quorums_at_work() {
-    let quorums = [
-        (1, 1),
-        (2, 2),
-        (3, 2),
-        (4, 3),
-        (5, 4),
-        (6, 4),
-        (7, 5),
-        (31, 21),
-        (32, 22),
-    ];
-    for (n, q) in quorums {
+    for (n, q) in QUORUMS {
         let mut node = Node::start(n, 0);
         if n == 1 {
             node.take(&propose(0, A, PLAIN));
@@ -144,17 +155,7 @@ fn quorums_at_work() {
 
 #[test]
 fn clock_quorums_at_work() {
-    for (n, q) in [
-        (1, 1),
-        (2, 2),
-        (3, 2),
-        (4, 3),
-        (5, 4),
-        (6, 4),
-        (7, 5),
-        (31, 21),
-        (32, 22),
-    ] {
+    for (n, q) in QUORUMS {
         let mut node = Node::start(n, 0);
         for clocks in 1..=q {
             assert_eq!(node.numbers(), (1, 0, 0), "n = {n}");
@@ -170,28 +171,153 @@ fn clock_quorums_at_work() {
 }
 
 #[test]
-fn clocks_must_be_equal_not_at_least() {
+fn a_clock_counts_for_lower_numbers_too() {
     let mut node = Node::start(4, 0);
-    node.take_all(&[clock(1, 5), clock(2, 6), clock(3, 7)]);
-    assert_eq!(agreed_clock(&node.state), None);
+    node.take_all(&[clock(1, 5), clock(2, 6)]);
     assert_eq!(node.numbers(), (1, 0, 0));
-    node.take_all(&[clock(1, 7), clock(2, 7)]);
-    assert_eq!(agreed_clock(&node.state), Some(Epoch(7)));
+    // 5, 6 and 7: three have 5 or more, two 6 or more.
+    node.take(&clock(3, 7));
+    assert_eq!(agreed_clock(&node.state), Epoch(5));
+    assert_eq!(node.numbers(), (5, 0, 0));
+    // 7, 6 and 7, then 7 three times.
+    node.take(&clock(1, 7));
+    assert_eq!(node.numbers(), (6, 0, 0));
+    node.take(&clock(2, 7));
     assert_eq!(node.numbers(), (7, 0, 0));
 }
 
 #[test]
-fn a_kept_clock_of_0_is_none() {
-    assert_eq!(agreed_clock(&Node::start(4, 0).state), None);
+fn a_hall_leaves_its_epoch_though_one_clock_has_moved_on() {
+    let mut node = Node::in_session(8);
+    node.take_all(&[clock(1, 7), clock(2, 7), clock(3, 7)]);
+    assert_eq!(node.numbers(), (7, 2, 1));
+    // Node 2's clock goes from 8 to 9, the own one is 8: two have 8 or more.
+    node.take_all(&[clock(2, 8), clock(2, 9), minute(0)]);
+    assert_eq!(node.numbers(), (7, 2, 1));
+    // 8, 8, 9 and 7: three have 8 or more, one 9.
+    node.take(&clock(1, 8));
+    assert_eq!(node.numbers(), (8, 2, 1));
+    // Epoch 8 of four nodes is the own turn.
+    node.take(&propose(0, C, PLAIN));
+}
+
+#[test]
+fn of_clocks_that_all_differ_the_qth_highest_is_agreed() {
+    // 1 to 4: three have 2 or more. 1 to 7: five have 3 or more. 1 to 32: 22 have 11
+    // or more. Which node has which makes no difference.
+    for (n, step, agreed) in [(4, 3, 2), (7, 3, 3), (32, 5, 11)] {
+        let mut clocks: Vec<u32> = (0..n).map(|node| node * step % n + 1).collect();
+        for _ in 0..n {
+            assert_eq!(agreed_clock(&keeping(&clocks)), Epoch(agreed), "{clocks:?}");
+            clocks.rotate_left(1);
+        }
+        clocks.sort();
+        assert_eq!(clocks, (1..=n).collect::<Vec<u32>>());
+    }
+}
+
+#[test]
+fn clocks_that_all_differ_move_the_local_epoch() {
+    // Clock 2n from node 1, one less from each next node, q of them in all.
+    for (n, q, lowest) in [(4, 3, 6), (7, 5, 10), (32, 22, 43)] {
+        let mut node = Node::start(n, 0);
+        for sender in 1..=q {
+            assert_eq!(node.numbers(), (1, 0, 0), "n = {n}");
+            node.take(&clock(sender, 2 * n + 1 - u32::from(sender)));
+        }
+        assert_eq!(node.numbers(), (lowest, 0, 0), "n = {n}");
+    }
+}
+
+#[test]
+fn one_short_of_a_quorum_moves_nothing_however_high_its_clocks() {
+    for (n, q) in QUORUMS {
+        let mut node = Node::start(n, 0);
+        for sender in 1..q {
+            node.take(&clock(sender, u32::MAX));
+            assert_eq!(node.numbers(), (1, 0, 0), "n = {n}");
+        }
+        assert_eq!(agreed_clock(&node.state), Epoch(0), "n = {n}");
+        // The own clock of 2 makes a quorum, which has 2 or more.
+        node.take(&minute(0));
+        assert_eq!(node.numbers(), (2, 0, 0), "n = {n}");
+    }
+}
+
+#[test]
+fn the_own_clock_counts_like_any_other() {
+    let mut node = Node::start(4, 0);
+    node.take_all(&[clock(1, 9), clock(2, 4)]);
+    assert_eq!(node.numbers(), (1, 0, 0));
+    // Own clocks of 2, 3 and 4 are the third highest; of 5 it is the second.
+    for (own, local) in [(2, 2), (3, 3), (4, 4), (5, 4)] {
+        node.take(&minute(0));
+        assert_eq!(node.state.clocks[0], Epoch(own));
+        assert_eq!(node.numbers(), (local, 0, 0));
+    }
+    node.refuse(&minute(0), REPEAT);
+}
+
+#[test]
+fn one_two_and_three_nodes_agree_on_a_clock() {
+    // Quorums of 1, 2 and 2: the only one, the lower, the one in the middle.
+    let kept: [(&[u32], u32); 8] = [
+        (&[0], 0),
+        (&[9], 9),
+        (&[9, 0], 0),
+        (&[9, 4], 4),
+        (&[4, 9], 4),
+        (&[0, 9, 0], 0),
+        (&[0, 9, 4], 4),
+        (&[6, 9, 4], 6),
+    ];
+    for (clocks, agreed) in kept {
+        assert_eq!(agreed_clock(&keeping(clocks)), Epoch(agreed), "{clocks:?}");
+    }
+}
+
+#[test]
+fn clocks_reach_the_last_epoch() {
+    let last = u32::MAX;
+    let mut node = Node::start(4, 0);
+    node.take_all(&[clock(1, last), clock(2, last), clock(3, last - 1)]);
+    assert_eq!(node.numbers(), (last - 1, 0, 0));
+    node.take(&minute(0));
+    assert_eq!(node.numbers(), (last, 0, 0));
+    node.take(&clock(3, last));
+    assert_eq!(node.numbers(), (last, 0, 0));
+}
+
+#[test]
+fn without_a_quorum_of_clocks_the_agreed_one_is_0() {
+    assert_eq!(agreed_clock(&Node::start(4, 0).state), Epoch(0));
+    assert_eq!(agreed_clock(&keeping(&[0, 9, 9, 0])), Epoch(0));
+}
+
+#[test]
+fn clocks_of_numbers_at_or_above_n_do_not_count() {
+    let mut state = keeping(&[9, 9, 3, 0]);
+    state.clocks[4..].fill(Epoch(9));
+    assert_eq!(agreed_clock(&state), Epoch(3));
+}
+
+#[test]
+fn an_agreed_clock_of_any_count_is_worked_out() {
+    let mut state = keeping(&[7; 32]);
+    // Past 32 there are no clocks: quorums of 22 and 32 find enough, one of 33 doesn't.
+    for (n, agreed) in [(0, 0), (33, 7), (48, 7), (49, 0), (u32::MAX, 0)] {
+        state.n = n;
+        assert_eq!(agreed_clock(&state), Epoch(agreed), "n = {n}");
+    }
 }
 
 #[test]
 fn an_agreed_clock_stays_agreed_and_local_never_falls() {
     let mut node = Node::start(4, 0);
     node.take_all(&[clock(1, 3), clock(2, 3), clock(3, 3)]);
-    // One moves on: no number has a quorum now, and the local epoch stays.
-    node.take(&clock(3, 9));
-    assert_eq!(agreed_clock(&node.state), None);
+    // Two move on: three still have 3 or more.
+    node.take_all(&[clock(3, 9), clock(2, 4)]);
+    assert_eq!(agreed_clock(&node.state), Epoch(3));
     assert_eq!(node.numbers(), (3, 0, 0));
 }
 
@@ -199,7 +325,7 @@ fn an_agreed_clock_stays_agreed_and_local_never_falls() {
 fn a_clock_below_the_local_epoch_is_taken() {
     let mut node = Node::in_session(8);
     node.take_all(&[clock(1, 1), clock(2, 1), clock(3, 1)]);
-    assert_eq!(agreed_clock(&node.state), Some(Epoch(1)));
+    assert_eq!(agreed_clock(&node.state), Epoch(1));
     assert_eq!(node.numbers(), (3, 2, 1));
 }
 

@@ -11,7 +11,7 @@ use second::{
     NodeNo, Place, Relation, State, Voters, TAKEN,
 };
 
-const STEPS: usize = 6_000;
+const STEPS: usize = 20_000;
 const STATES: usize = 3_000;
 const RECORDINGS: usize = 40;
 
@@ -138,18 +138,19 @@ fn is_freshest_as_worded(state: &State, place: Place) -> bool {
     firm_as_worded(state, place) && firm.all(beaten)
 }
 
-/// The agreed clock as it is worded, looked up among all kept numbers.
-fn agreed_as_worded(state: &State) -> Option<Epoch> {
+/// The agreed clock as it is worded: of all kept numbers and those after them, the
+/// greatest that enough nodes have or are past.
+fn agreed_as_worded(state: &State) -> Epoch {
     let clocks = &state.clocks[..state.n as usize];
-    let mut agreed: Vec<Epoch> = clocks.to_vec();
-    agreed.sort();
-    agreed.dedup();
-    agreed.retain(|c| {
-        let nodes = clocks.iter().filter(|clock| *clock == c).count();
-        c.0 > 0 && 3 * nodes >= 2 * clocks.len()
-    });
-    assert!(agreed.len() <= 1, "two agreed clocks");
-    agreed.first().copied()
+    let enough_have = |c: &u64| {
+        let nodes = clocks.iter().filter(|clock| u64::from(clock.0) >= *c);
+        3 * nodes.count() >= 2 * clocks.len()
+    };
+    let numbers = clocks.iter().map(|clock| u64::from(clock.0));
+    let numbers = numbers.flat_map(|c| [c, c + 1]);
+    let agreed = numbers.filter(enough_have).max().expect("the lowest clock");
+    assert!(!enough_have(&(agreed + 1)));
+    Epoch(u32::try_from(agreed).expect("a kept clock"))
 }
 
 fn final_bytes(state: &State) -> Vec<u8> {
@@ -170,6 +171,7 @@ fn check_reached(state: &State) {
     let freshest = freshest(state, &firm);
     assert!(is_freshest_as_worded(state, freshest));
     assert_eq!(agreed_clock(state), agreed_as_worded(state));
+    assert!(state.local >= agreed_clock(state), "an epoch left behind");
     assert!(state.local > state.row(freshest).epoch);
     assert!(state.bar <= state.row(freshest).epoch);
     assert!(firm.holds(state.kept), "a final block that isn't firm");
@@ -183,6 +185,7 @@ fn check_taken(before: &State, after: &State) {
     assert!(after.count >= before.count && after.count <= before.count + 1);
     let mut clocks = before.clocks.iter().zip(&after.clocks);
     assert!(clocks.all(|(old, new)| old <= new));
+    assert!(agreed_clock(before) <= agreed_clock(after));
     for (old, new) in before.blocks[..=before.count].iter().zip(&after.blocks) {
         assert_eq!(old.voters.0 & !new.voters.0, 0, "a vote was lost");
         assert_eq!(
@@ -354,6 +357,7 @@ fn well_shaped_states_stay_so_and_refusals_change_nothing() {
     for _ in 0..STATES {
         let state = shaped_state(&mut random);
         assert!(well_shaped(&state));
+        assert_eq!(agreed_clock(&state), agreed_as_worded(&state));
         let record = likely_record(&mut random, &state);
         let mut out = [UNTOUCHED; RECORD_LEN];
         let mut stepped = state.clone();

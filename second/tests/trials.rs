@@ -10,6 +10,7 @@ use programs::{print_the_usage, printed, second, SECOND};
 use second::record::RECORD_LEN;
 use second::state::MAX_BLOCKS;
 use second::trials::compare::own_text;
+use second::trials::examples::{example, EXAMPLES};
 use second::trials::load::{load, write_long};
 use second::trials::script::{print_answers, write_script};
 use second::{step_shaped, State};
@@ -54,6 +55,22 @@ fn the_first_difference_is_shown_and_kept() {
     let changed = first.replacen(" 13 ", " 12 ", 1);
     assert_eq!(lines[3], format!("printed  \"{changed}\\n\""));
     std::fs::remove_file(path).unwrap();
+}
+
+#[test]
+fn the_examples_are_played_first() {
+    // As if only equal clocks counted.
+    let stuck = program("stuck", "| sed 's/^15 0 8 2 1$/15 0 7 2 1/'");
+    let output = second(&["compare-replay", &stuck, "1", "2"]);
+    assert_eq!(output.status.code(), Some(1));
+    let lines: Vec<&str> = printed(&output).lines().collect();
+    assert_eq!(lines[0], "example stuck: another text, exit status: 0");
+    let kept = lines[1].strip_prefix("kept as ").unwrap();
+    assert!(std::fs::read(kept).unwrap() == example("stuck").unwrap());
+    assert_eq!(lines[2], "expected \"15 0 8 2 1\\n\"");
+    assert_eq!(lines[3], "printed  \"15 0 7 2 1\\n\"");
+    assert_eq!(lines.len(), 4);
+    std::fs::remove_file(kept).unwrap();
 }
 
 #[test]
@@ -129,6 +146,15 @@ fn a_recording_is_a_load() {
 }
 
 #[test]
+fn an_example_is_the_librarys() {
+    for name in EXAMPLES {
+        let output = second(&["example", name]);
+        assert!(output.status.success());
+        assert!(output.stdout == example(name).unwrap());
+    }
+}
+
+#[test]
 fn a_long_recording_has_the_bytes_asked_for() {
     let whole = load(4);
     for bytes in [0, 1, 2, 3, 98, 99, 100_000] {
@@ -150,6 +176,8 @@ fn other_words_print_the_usage() {
         &["answers", "more"],
         &["bench"],
         &["long", "far"],
+        &["example"],
+        &["example", "other"],
     ]);
 }
 

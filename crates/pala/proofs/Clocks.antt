@@ -1,6 +1,6 @@
 -- The agreed clock is what M-100 says of it, the q-th highest kept clock. Assumes nothing.
 use Prim.Native.Nat.{ℕ, zero, suc, _+_, _≤_, _<_, zero-le}
-use mathlib.Core.Bool.{Bool, true}
+use mathlib.Core.Bool.{Bool, true, false}
 use mathlib.Core.List.{List}
 use mathlib.Core.Logic.{_≢_, ⊎-elim}
 use mathlib.Core.Path.{_≡_, refl, sym}
@@ -9,19 +9,21 @@ use native.Mathlib.Omega.{arith}
 use borrow.Author.Tests.{eqb-true, eqb-false, leb-true, le-leb}
 use lib.Dec.{eqb, leb}
 use Rattle.table.specs.declared.Epoch.{Epoch}
+use Rattle.table.specs.declared.State.{State}
 use Rattle.table.specs.Scan.{count, lowest, greatest}
-use Rattle.table.proofs.Laws.{pick-yes, lowest-hit, lowest-below, greatest-bounds, greatest-reached}
+use Rattle.table.proofs.Laws.{not-both, fails, pick-yes, lowest-hit, lowest-below, greatest-bounds, greatest-reached}
 use Rattle.pala.specs.Counts.{quorum, clockOf}
 use Rattle.pala.specs.Rules.{reached, shared, agreed}
+use Rattle.pala.specs.Steps.{newLocal}
 use Rattle.pala.proofs.Counts.{quorum-enough, quorum-least}
 use Rattle.pala.proofs.Demand.Quorums.{witness, count-mono}
 
--- how many nodes "have a kept clock of c or more"
+-- how many nodes "have a kept clock of c or more", counted
 abbrev pub having : ℕ → List Epoch → ℕ → ℕ
 having n clocks c = count n (λ i. leb c (clockOf clocks i))
 
 -- where each node that has c or more among the old clocks has d or more among the new, as many have it
-pub as-many : (n : ℕ) (old new : List Epoch) (c d : ℕ) → ((i : ℕ) → i < n → c ≤ clockOf old i → d ≤ clockOf new i) → having n old c ≤ having n new d
+as-many : (n : ℕ) (old new : List Epoch) (c d : ℕ) → ((i : ℕ) → i < n → c ≤ clockOf old i → d ≤ clockOf new i) → having n old c ≤ having n new d
 as-many n old new c d keeps =
     count-mono n (λ i. leb c (clockOf old i)) (λ i. leb d (clockOf new i))
     (λ i l h. le-leb d (clockOf new i) (keeps i l (leb-true c (clockOf old i) h)))
@@ -81,17 +83,28 @@ module _ (n : ℕ) (clocks : List Epoch) where
         | no l ↦ absurd (omega (arith, agreed-greatest (agreed n clocks + 1) some (omega arith)))
       ]
 
+  -- where c + 1 isn't shared, no number above c is agreed
+  pub unshared-above : (c : ℕ) → shared n clocks (c + 1) ≡ false → agreed n clocks ≤ c
+  unshared-above c few =
+      let top = agreed n clocks in
+      elim (decLt c top) [
+        | yes l ↦
+            absurd (not-both (had-shared (c + 1) (omega (arith, agreed-had, as-many n clocks clocks top (c + 1) (λ i b e. omega arith)))) few)
+        | no l ↦ omega arith
+      ]
+
   -- and no other number is so
   pub agreed-only : (c : ℕ) → 0 < n → quorum n ≤ having n clocks c → having n clocks (c + 1) < quorum n → c ≡ agreed n clocks
   agreed-only c some h few =
-      let top = agreed n clocks in
-      elim (decLt c top) [
-        | yes l ↦ absurd (omega (arith, agreed-had, as-many n clocks clocks top (c + 1) (λ i b e. omega arith)))
-        | no l ↦ omega (arith, agreed-greatest c some h)
-      ]
+      omega (arith, agreed-greatest c some h, unshared-above c (fails (shared n clocks (c + 1)) (λ y. absurd (omega (arith, shared-had (c + 1) y)))))
 
 -- a node that moved on still counts: where no clock fell, the agreed one didn't
 pub agreed-rises : (n : ℕ) (old new : List Epoch) → 0 < n → ((i : ℕ) → i < n → clockOf old i ≤ clockOf new i) → agreed n old ≤ agreed n new
 agreed-rises n old new some up =
     let c = agreed n old in
     agreed-greatest n new c some (omega (arith, agreed-had n old, as-many n old new c c (λ i l h. omega (arith, up i l))))
+
+-- no hall is stuck: where q nodes have a kept clock of c or more, step 3 leaves every epoch below c
+pub leaves-below : (s : State) (c : ℕ) → 0 < s .n → quorum (s .n) ≤ having (s .n) (s .clocks) c → c ≤ newLocal s
+unfolding newLocal
+leaves-below s c some h = omega (arith, agreed-greatest (s .n) (s .clocks) c some h)

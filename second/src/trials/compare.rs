@@ -10,6 +10,7 @@ use std::thread;
 use crate::replay::replay;
 
 use super::coverage::Coverage;
+use super::examples::{example, EXAMPLES};
 use super::generate::recording;
 use super::load::{load, LONG_NODES};
 
@@ -17,15 +18,20 @@ use super::load::{load, LONG_NODES};
 /// the records, since how it arrives must make no difference.
 const PIECES: [usize; 6] = [1, 2, 95, 1000, 96, 8192];
 
-/// Compares a program with the library's own `replay` on so many generated
-/// recordings and on a load, which is longer than any piece that is read at
-/// once. True where all printed the same and all that had to be met was.
+/// Compares a program with the library's own `replay` on the examples, then on so
+/// many generated recordings and on a load, which is longer than any piece that is
+/// read at once. True where all printed the same and all that had to be met was.
 pub fn compare_replay(
     program: &OsStr,
     count: u64,
     seed: u64,
     output: &mut impl Write,
 ) -> io::Result<bool> {
+    for (label, input) in examples() {
+        if !plays_the_same(program, &input, &own_text(&input)?, &label, output)? {
+            return Ok(false);
+        }
+    }
     let mut coverage = Coverage::default();
     for index in 0..count {
         let input = recording(seed, index, &mut coverage);
@@ -44,6 +50,12 @@ pub fn compare_replay(
     }
     writeln!(output, "{coverage}")?;
     Ok(missing.is_empty())
+}
+
+/// The recordings that aren't left to chance, each with its label.
+fn examples() -> impl Iterator<Item = (String, Vec<u8>)> {
+    let told = |name: &str| Some((format!("example {name}"), example(name)?));
+    EXAMPLES.into_iter().filter_map(told)
 }
 
 /// One recording; a difference is shown, and the recording kept.

@@ -7,6 +7,8 @@ use crate::lists::final_length;
 use crate::record::{Kind, RECORD_LEN};
 use crate::state::{State, MAX_BLOCKS, MAX_NODES};
 
+use super::rises::Rises;
+
 /// The answers of a record: taken, and rows 1 to 14.
 const ANSWERS: usize = Refusal::Full as usize + 1;
 /// A column for each kind, and one for any byte that is none.
@@ -118,6 +120,8 @@ pub struct Coverage {
     pub full: u64,
     /// The most names that a final list had.
     pub longest_list: usize,
+    /// What let local epochs rise.
+    pub rises: Rises,
     answers: Answers,
     node_counts: [u64; MAX_NODES],
     last_lengths: [u64; RECORD_LEN],
@@ -133,6 +137,7 @@ impl Default for Coverage {
             torn: 0,
             full: 0,
             longest_list: 0,
+            rises: Rises::default(),
             answers: Answers::default(),
             node_counts: [0; MAX_NODES],
             last_lengths: [0; RECORD_LEN],
@@ -178,6 +183,7 @@ impl Coverage {
     /// What had to be met and never was, in words.
     pub fn missing(&self) -> Vec<String> {
         let mut missing = self.answers.missing(named_pairs());
+        missing.extend(self.rises.missing());
         let counts = zeros(&self.node_counts);
         missing.extend(counts.map(|index| format!("n = {}", index + 1)));
         let lengths = zeros(&self.last_lengths);
@@ -239,6 +245,10 @@ impl fmt::Display for Coverage {
             self.full,
             self.agreed,
             self.longest_list,
-        )
+        )?;
+        for (rise, times) in self.rises.all() {
+            write!(text, ", {} {times} times", rise.words())?;
+        }
+        Ok(())
     }
 }

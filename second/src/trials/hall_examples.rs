@@ -3,19 +3,16 @@
 use crate::record::Record;
 use crate::state::{Epoch, Name, NodeNo, Payload, NAME_LEN, PAYLOAD_LEN};
 
+use super::examples::{cast, clock, heard, minute, propose, vote, A, B, GENESIS_NAME};
 use super::records::{self, stretch};
 
 /// The names of the recordings.
 pub const EXAMPLES: [&str; 4] = ["session", "sharp", "liar", "late"];
 
-const GENESIS_NAME: Name = [0; NAME_LEN];
-const A: Name = [0x0A; NAME_LEN];
-const B: Name = [0x0B; NAME_LEN];
 const C: Name = [0x0C; NAME_LEN];
 /// The other blocks that a faulty proposer has for the epochs of B and C.
 const OTHER_B: Name = [0x1B; NAME_LEN];
 const OTHER_C: Name = [0x1C; NAME_LEN];
-const PLAIN: Payload = [0; PAYLOAD_LEN];
 const OTHER_PAYLOAD: Payload = [1; PAYLOAD_LEN];
 
 /// The recording of this name, if there is one.
@@ -144,30 +141,6 @@ fn recording(n: u8, honest: u8, told: &[(u32, Record)]) -> Vec<u8> {
     [&[n, honest][..], &stretches.concat()].concat()
 }
 
-fn heard(sender: u32, epoch: u32, name: Name, parent: Name) -> Record {
-    records::proposal(Epoch(epoch), NodeNo(sender), name, parent, PLAIN)
-}
-
 fn renamed_a() -> Record {
     records::proposal(Epoch(3), NodeNo(3), A, GENESIS_NAME, OTHER_PAYLOAD)
-}
-
-fn vote(sender: u32, name: Name) -> Record {
-    records::vote(NodeNo(sender), name)
-}
-
-fn clock(sender: u32, epoch: u32) -> Record {
-    records::clock(NodeNo(sender), Epoch(epoch))
-}
-
-fn propose(own: u32, name: Name) -> Record {
-    records::propose(NodeNo(own), name, PLAIN)
-}
-
-fn cast(own: u32) -> Record {
-    records::cast(NodeNo(own))
-}
-
-fn minute(own: u32) -> Record {
-    records::minute(NodeNo(own))
 }

@@ -9,6 +9,7 @@ use crate::record::{Kind, Record, RECORD_LEN};
 use crate::state::{Name, NodeNo, State, MAX_BLOCKS};
 
 use super::coverage::{hall_pairs, zeros, Answers};
+use super::rises::Rises;
 
 /// From so many recordings on, all has to be met.
 pub const ENOUGH: u64 = 500;
@@ -124,6 +125,8 @@ pub struct HallTally {
     pub full: u64,
     /// The most names that a final list had.
     pub longest_list: usize,
+    /// What let the honest gateways' local epochs rise.
+    pub rises: Rises,
     answers: Answers<HALL_ANSWERS>,
     faulty: [u64; Faulty::ALL.len()],
     meetings: [u64; Meeting::ALL.len()],
@@ -145,6 +148,7 @@ impl Default for HallTally {
             torn: 0,
             full: 0,
             longest_list: 0,
+            rises: Rises::default(),
             answers: Answers::default(),
             faulty: [0; Faulty::ALL.len()],
             meetings: [0; Meeting::ALL.len()],
@@ -220,6 +224,7 @@ impl HallTally {
         let lines = [self.refused_heads, self.yes, self.no];
         let words = ["answer 15", "yes", "no"];
         missing.extend(zeros(&lines).map(|line| words[line].to_owned()));
+        missing.extend(self.rises.missing());
         missing.extend(zeros(&self.faulty).map(|index| Faulty::ALL[index].words().to_owned()));
         missing.extend(zeros(&self.meetings).map(|index| Meeting::ALL[index].words().to_owned()));
         missing.extend(zeros(&self.renamings).map(renaming_words));
@@ -315,6 +320,9 @@ impl fmt::Display for HallTally {
                 writeln!(text, "{times:>10}  answer {answer}")?;
             }
         }
+        for (rise, times) in self.rises.all() {
+            writeln!(text, "{times:>10}  {}", rise.words())?;
+        }
         for meeting in Meeting::ALL {
             let times = self.meetings[meeting as usize];
             writeln!(text, "{times:>10}  {}", meeting.words())?;
@@ -322,10 +330,7 @@ impl fmt::Display for HallTally {
         for (index, times) in self.renamings.iter().enumerate() {
             writeln!(text, "{times:>10}  {}", renaming_words(index))?;
         }
-        write!(
-            text,
-            "never no with fewer than a third faulty: {}",
-            self.broken == 0
-        )
+        let never_no = self.broken == 0;
+        write!(text, "never no with fewer than a third faulty: {never_no}")
     }
 }

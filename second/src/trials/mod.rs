@@ -1,9 +1,10 @@
 //! What the proved programs are compared with this one by, and timed against.
 //!
 //! [`generate`] makes recordings from a [`hall`] of gateways, with [`damage`]
-//! mixed in; [`coverage`] counts which answers they met; [`compare`] plays them
-//! to another program. [`script`] does the same for the two functions that C
-//! calls. [`load`] makes the recordings that [`mod@bench`] times.
+//! mixed in; [`coverage`] counts which answers they met and [`rises`] what let
+//! local epochs rise; [`compare`] plays them to another program, after
+//! [`examples`]. [`script`] does the same for the two functions that C calls.
+//! [`load`] makes the recordings that [`mod@bench`] times.
 //!
 //! [`hall_recordings`] takes down all that the honest gateways of a [`hall`] hear;
 //! [`hall_tally`] counts what that met and [`compare_hall`] plays it to another
@@ -23,6 +24,7 @@ pub mod compare_hall;
 pub mod compare_states;
 pub mod coverage;
 pub mod damage;
+pub mod examples;
 pub mod generate;
 pub mod hall;
 pub mod hall_examples;
@@ -32,6 +34,7 @@ pub mod hall_tally;
 pub mod load;
 pub mod random;
 pub mod records;
+pub mod rises;
 pub mod script;
 pub mod states;
 pub mod tally;

@@ -47,6 +47,8 @@ const BORDER_EPOCHS: [u32; 9] = [
     u32::MAX - 3,
     u32::MAX - 1,
 ];
+/// The crowd's clocks are a few epochs apart once in so many times.
+const SCATTERED: usize = 2;
 /// A clock stands apart from the crowd's once in so many times.
 const APART: usize = 3;
 
@@ -391,21 +393,28 @@ fn some_nodes(random: &mut Random, n: u32, count: u32) -> Voters {
 fn fill_numbers(random: &mut Random, state: &mut State) {
     let freshest = freshest(state, &Firm::of(state));
     let freshest = state.row(freshest).epoch;
-    let number = |random: &mut Random, state: &State, sources: &[(Source, usize)]| {
-        let source = random.weighted(sources);
-        epoch_from(random, state, freshest, source)
-    };
-    state.local = number(random, state, &LOCALS).max(FIRST_EPOCH);
-    state.bar = number(random, state, &BARS);
-    state.voted = number(random, state, &NOTES);
-    state.proposed = number(random, state, &NOTES);
-    let crowd = number(random, state, &CLOCKS);
+    state.local = number(random, state, freshest, &LOCALS).max(FIRST_EPOCH);
+    state.bar = number(random, state, freshest, &BARS);
+    state.voted = number(random, state, freshest, &NOTES);
+    state.proposed = number(random, state, freshest, &NOTES);
+    fill_clocks(random, state, freshest);
+}
+
+/// A crowd of nodes with about the same clock; the others have none or any.
+fn fill_clocks(random: &mut Random, state: &mut State, freshest: Epoch) {
+    let crowd = number(random, state, freshest, &CLOCKS);
+    let scattered = random.once_in(SCATTERED);
     let turnouts = random.weighted(&TURNOUTS);
     let in_crowd = voters(random, &turnouts, state.n);
     for node in 0..state.n {
-        let apart = number(random, state, &CLOCKS);
+        let further = if scattered {
+            random.below(FEW_EPOCHS) as u32
+        } else {
+            0
+        };
+        let apart = number(random, state, freshest, &CLOCKS);
         state.clocks[node as usize] = if in_crowd.contains(NodeNo(node)) {
-            crowd
+            Epoch(crowd.0.saturating_add(further))
         } else if random.once_in(APART) {
             apart
         } else {
@@ -414,7 +423,13 @@ fn fill_numbers(random: &mut Random, state: &mut State) {
     }
 }
 
-fn epoch_from(random: &mut Random, state: &State, freshest: Epoch, source: Source) -> Epoch {
+fn number(
+    random: &mut Random,
+    state: &State,
+    freshest: Epoch,
+    sources: &[(Source, usize)],
+) -> Epoch {
+    let source = random.weighted(sources);
     let block = state.row(Place(random.below(state.count + 1))).epoch;
     match source {
         Source::Zero => NO_EPOCH,

@@ -9,18 +9,15 @@ use crate::state::{State, MAX_NODES, ROWS};
 
 use super::clauses::{broken, Clause};
 use super::coverage::{handed_pairs, zeros, Answers, COLUMNS};
+use super::rises::Rises;
 use super::wire::{Case, Reply};
 
 /// From so many cases on, every pair of answer and kind has to be met.
 pub const ALL_PAIRS: u64 = 20_000;
 
-/// What a taken record may do in the five steps.
+/// What a taken record may do in the last of the five steps.
 #[derive(Clone, Copy, Debug, PartialEq, Eq)]
 pub enum Event {
-    /// The local epoch rose to the freshest block's plus 1.
-    RoseByBlock,
-    /// It rose further, to a number that a quorum has as its clock.
-    RoseByClocks,
     /// The candidate took the place of the kept final block.
     KeptMoved,
     /// The kept final block stayed, as it descends from the candidate.
@@ -30,18 +27,10 @@ pub enum Event {
 }
 
 impl Event {
-    const ALL: [Event; 5] = [
-        Event::RoseByBlock,
-        Event::RoseByClocks,
-        Event::KeptMoved,
-        Event::KeptStayed,
-        Event::Torn,
-    ];
+    const ALL: [Event; 3] = [Event::KeptMoved, Event::KeptStayed, Event::Torn];
 
     fn words(self) -> &'static str {
         match self {
-            Event::RoseByBlock => "the local epoch rose by a block",
-            Event::RoseByClocks => "the local epoch rose by clocks",
             Event::KeptMoved => "the kept block moved",
             Event::KeptStayed => "the kept block stayed past the candidate",
             Event::Torn => "the state was torn",
@@ -56,6 +45,8 @@ pub struct Tally {
     pub well_shaped: u64,
     /// Names of the longest final list.
     pub longest_list: u8,
+    /// What let local epochs rise.
+    pub rises: Rises,
     answers: Answers,
     alone: [u64; Clause::ALL.len()],
     several: u64,
@@ -70,6 +61,7 @@ impl Default for Tally {
         Tally {
             well_shaped: 0,
             longest_list: 0,
+            rises: Rises::default(),
             answers: Answers::default(),
             alone: [0; Clause::ALL.len()],
             several: 0,
@@ -95,6 +87,7 @@ impl Tally {
             _ => self.several += 1,
         }
         if reply.answer == TAKEN {
+            self.rises.count(case.state.local, &reply.state);
             for event in events(&case.state, &reply.state) {
                 self.events[event as usize] += 1;
             }
@@ -128,6 +121,7 @@ impl Tally {
         missing.extend(zeros(&answers).map(|answer| format!("answer {answer}")));
         let clauses = zeros(&self.alone).map(|clause| Clause::ALL[clause].words());
         missing.extend(clauses.map(|words| format!("alone broken: {words}")));
+        missing.extend(self.rises.missing());
         let events = zeros(&self.events).map(|event| Event::ALL[event].words());
         missing.extend(events.map(str::to_owned));
         if self.cases() >= ALL_PAIRS {
@@ -141,17 +135,13 @@ impl Tally {
     }
 }
 
-/// What the five steps did between a state and the one that came back.
+/// What the last step did between a state and the one that came back.
 fn events(before: &State, after: &State) -> Vec<Event> {
     let freshest = freshest(after, &Firm::of(after));
-    let after_freshest = after.row(freshest).epoch.next();
-    let rose = after.local > before.local;
     let moved = after.kept != before.kept;
     let stayed = !after.torn && after.kept != candidate(after, freshest);
     let mut events = Event::ALL.to_vec();
     events.retain(|event| match event {
-        Event::RoseByBlock => rose && after.local == after_freshest,
-        Event::RoseByClocks => rose && after.local > after_freshest,
         Event::KeptMoved => moved,
         Event::KeptStayed => stayed,
         Event::Torn => after.torn,
@@ -185,13 +175,12 @@ impl fmt::Display for Tally {
         }
         write!(text, "\n{:>10}  more than one", self.several)?;
         write!(text, "\nof the records taken:")?;
+        for (rise, times) in self.rises.all() {
+            write!(text, "\n{times:>10}  {}", rise.words())?;
+        }
         for event in Event::ALL {
-            write!(
-                text,
-                "\n{:>10}  {}",
-                self.events[event as usize],
-                event.words()
-            )?;
+            let times = self.events[event as usize];
+            write!(text, "\n{times:>10}  {}", event.words())?;
         }
         Ok(())
     }

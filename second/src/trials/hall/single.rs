@@ -31,10 +31,13 @@ impl Desk for Single<'_> {
     }
 
     fn play(&mut self, to: usize, record: &RecordBytes, sent: &mut RecordBytes) -> u8 {
-        let answer = step_shaped(&mut self.gateways[to], record, sent);
+        let gateway = &mut self.gateways[to];
+        let local = gateway.local;
+        let answer = step_shaped(gateway, record, sent);
         if to == RECEIVER {
             self.heard.push(*record);
             self.coverage.count_record(record, answer);
+            self.coverage.rises.count(local, gateway);
         }
         answer
     }

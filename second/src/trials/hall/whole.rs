@@ -28,10 +28,14 @@ pub struct Whole<'a> {
 impl Whole<'_> {
     /// Plays a record of any length to any receiver.
     pub(super) fn hear(&mut self, to: NodeNo, record: &[u8], sent: &mut RecordBytes) -> u8 {
+        let local = self.hall.gateway(to).map(|receiver| receiver.local);
         let answer = self.hall.hear(to, record, sent);
         self.recording.extend(stretch(to, record));
         self.heard.extend(record.as_array());
         self.tally.count_record(&self.hall, to, record, answer);
+        if let (Some(local), Some(receiver)) = (local, self.hall.gateway(to)) {
+            self.tally.rises.count(local, receiver);
+        }
         answer
     }
 }

@@ -1,9 +1,10 @@
 -- The best of the local epoch and the clocks passed. The measure is the nodes that are left. Assumes nothing.
 use Prim.Native.Nat.{ℕ, _≤_, _-_, max}
 use mathlib.Core.Bool.{Bool}
-use mathlib.Core.Path.{_≡_, ap, _∙_}
+use mathlib.Core.Path.{_≡_, sym, ap, _∙_}
 use native.Mathlib.Omega.{arith}
 use borrow.Author.Needs.{needs}
+use borrow.Author.Tests.{not-true}
 use lib.ListN.{length}
 use Rattle.table.specs.Rows.{mostNodes}
 use Rattle.table.specs.Scan.{greatest}
@@ -11,6 +12,7 @@ use Rattle.table.specs.declared.Epoch.{Epoch}
 use Rattle.table.proofs.Laws.{greatest-step}
 use Rattle.pala.specs.Counts.{clockOf}
 use Rattle.pala.specs.Rules.{shared}
+use Rattle.pala.proofs.Clocks.{unshared-above}
 use Rattle.rules.proofs.Agreed.{agreed-held, best-of}
 use Rattle.rules.proofs.clocks.clock_of.Statement.{statement}
 use Rattle.rules.proofs.clocks.clock_of.Tie as tie
@@ -25,6 +27,15 @@ abbrev μ-loop : tie.MeasureT-loop
 
 held : (c : tie.Start Inv-loop μ-loop) → length (c .args .t1) ≡ mostNodes
 held c = search
+
+shared-past-requires : tie.Need-shared-past-requires Inv-loop μ-loop
+shared-past-requires c κs = search needs
+
+returns : tie.Need-returns Inv-loop μ-loop
+returns c =
+    let a = c .before .before .args in
+    let few = unshared-above (a .n) (a .t1) (a .local .0) (sym (c .before .shared-past .ensures) ∙ not-true _ (c .if1 .taken)) in
+    ap (λ (e : ℕ). record { 0 = e }) (omega (arith, few))
 
 clocks-held-requires : tie.Need-clocks-held-requires Inv-loop μ-loop
 clocks-held-requires c κs = search needs
@@ -55,16 +66,16 @@ loop-again : tie.Need-loop-again Inv-loop μ-loop
 unfolding clockOf
 loop-again c =
     let l = c .before .before .before in
-    let a = l .before .before .args in
+    let a = l .before .before .before .before .args in
     let ok : ℕ → Bool = λ i. shared (a .n) (a .t1) (clockOf (a .t1) i) in (
       omega arith,
       best-of _ _ _ _ _ _ (l .loop .inv .1) (ap (λ (e : Epoch). e .0) (c .better .ensures)) (greatest-step (l .loop .k) ok (clockOf (a .t1))),
     )
 
-returns : tie.Need-returns Inv-loop μ-loop
-returns c =
+returns-2 : tie.Need-returns-2 Inv-loop μ-loop
+returns-2 c =
     let l = c .before in
-    let s = l .before .before in
+    let s = l .before .before .before .before in
     let a = s .args in
     ap (λ (e : ℕ). record { 0 = e })
     (l .loop .inv .1
@@ -77,6 +88,8 @@ clock-of-spec =
     (tie.spec
     Inv-loop
     μ-loop
+    shared-past-requires
+    returns
     clocks-held-requires
     loop-holds
     cast-i
@@ -86,4 +99,4 @@ clock-of-spec =
     add-k
     loop-less
     loop-again
-    returns)
+    returns-2)

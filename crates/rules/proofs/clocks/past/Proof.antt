@@ -1,5 +1,5 @@
--- The holders counted so far. The measure is the nodes that are left. Assumes nothing.
-use Prim.Native.Nat.{ℕ, _≤_, _-_, zero-le}
+-- Those past c, counted so far. The measure is the nodes that are left. Assumes nothing.
+use Prim.Native.Nat.{ℕ, _+_, _≤_, _-_, zero-le}
 use mathlib.Core.Bool.{Bool}
 use mathlib.Core.Path.{_≡_, ap, refl, _∙_}
 use native.Mathlib.Omega.{arith}
@@ -8,11 +8,11 @@ use borrow.Author.Tests.{le-leb, lt-leb}
 use Rattle.table.specs.Scan.{count}
 use Rattle.table.proofs.Laws.{count-le, count-no, count-yes}
 use Rattle.pala.specs.Rules.{reached}
-use Rattle.rules.proofs.clocks.holders.Statement.{statement}
-use Rattle.rules.proofs.clocks.holders.Tie as tie
+use Rattle.rules.proofs.clocks.past.Statement.{statement}
+use Rattle.rules.proofs.clocks.past.Tie as tie
 
 abbrev Inv-loop : tie.InvT-loop
-Inv-loop end c clocks held₀ k₀ held k = (k ≤ end) × (held ≡ count k (λ i. reached clocks (c .0) i))
+Inv-loop end c clocks held₀ k₀ held k = (k ≤ end) × (held ≡ count k (λ i. reached clocks (c .0 + 1) i))
 
 abbrev μ-loop : tie.MeasureT-loop
 μ-loop end c clocks held₀ k₀ held k = end - k
@@ -41,14 +41,14 @@ unfolding reached
 loop-again c =
     let l = c .before .before .before in
     let a = l .before .args in
-    let ok : ℕ → Bool = λ i. reached (a .t1) (a .c .0) i in
-    (omega arith, omega (arith, count-no (l .loop .k) ok (lt-leb (a .c .0) _ (c .if1 .taken))))
+    let ok : ℕ → Bool = λ i. reached (a .t1) (a .c .0 + 1) i in
+    (omega arith, omega (arith, count-no (l .loop .k) ok (lt-leb (a .c .0 + 1) _ (omega (arith, c .if1 .taken)))))
 
 add-held : tie.Need-add-held Inv-loop μ-loop
 add-held c =
     let l = c .before .before .before in
     let a = l .before .args in
-    omega (arith, count-le (l .loop .k) (λ i. reached (a .t1) (a .c .0) i))
+    omega (arith, count-le (l .loop .k) (λ i. reached (a .t1) (a .c .0 + 1) i))
 
 loop-less-2 : tie.Need-loop-less-2 Inv-loop μ-loop
 loop-less-2 c = omega arith
@@ -58,16 +58,16 @@ unfolding reached
 loop-again-2 c =
     let l = c .before .before .before in
     let a = l .before .args in
-    let ok : ℕ → Bool = λ i. reached (a .t1) (a .c .0) i in
-    (omega arith, omega (arith, count-yes (l .loop .k) ok (le-leb (a .c .0) _ (c .if1 .left))))
+    let ok : ℕ → Bool = λ i. reached (a .t1) (a .c .0 + 1) i in
+    (omega arith, omega (arith, count-yes (l .loop .k) ok (le-leb (a .c .0 + 1) _ (omega (arith, c .if1 .left)))))
 
 returns : tie.Need-returns Inv-loop μ-loop
 returns c =
     let a = c .before .before .args in
-    c .before .loop .inv .1 ∙ ap (λ (k : ℕ). count k (λ i. reached (a .t1) (a .c .0) i)) (omega arith)
+    c .before .loop .inv .1 ∙ ap (λ (k : ℕ). count k (λ i. reached (a .t1) (a .c .0 + 1) i)) (omega arith)
 
-pub holders-spec : {M : Type 1} → statement M
-holders-spec =
+pub past-spec : {M : Type 1} → statement M
+past-spec =
     tie.close
     (tie.spec
     Inv-loop
