@@ -11,12 +11,11 @@ use lib.Dec.{eqb, leb}
 use Rattle.table.specs.declared.Epoch.{Epoch}
 use Rattle.table.specs.declared.State.{State}
 use Rattle.table.specs.Scan.{count, lowest, greatest}
-use Rattle.table.proofs.Laws.{not-both, fails, pick-yes, lowest-hit, lowest-below, greatest-bounds, greatest-reached}
+use Rattle.table.proofs.Laws.{not-both, fails, pick-yes, count-some, count-mono, lowest-hit, lowest-below, greatest-bounds, greatest-reached}
 use Rattle.pala.specs.Counts.{quorum, clockOf}
 use Rattle.pala.specs.Rules.{reached, shared, agreed}
 use Rattle.pala.specs.Steps.{newLocal}
 use Rattle.pala.proofs.Counts.{quorum-enough, quorum-least}
-use Rattle.pala.proofs.Demand.Quorums.{witness, count-mono}
 
 -- how many nodes "have a kept clock of c or more", counted
 abbrev pub having : ℕ → List Epoch → ℕ → ℕ
@@ -54,7 +53,7 @@ module _ (n : ℕ) (clocks : List Epoch) where
   raise : (m c : ℕ) → 0 < n → ((i : ℕ) → i < n → clockOf clocks i < c + m) → quorum n ≤ having n clocks c → c ≤ agreed n clocks
   unfolding agreed
   raise zero c some below h =
-      let (i, l, e) = witness n (λ i. leb c (clockOf clocks i)) (omega (arith, quorum-enough n)) in
+      let (i, l, e) = count-some n (λ i. leb c (clockOf clocks i)) (omega (arith, quorum-enough n)) in
       absurd (omega (arith, leb-true c (clockOf clocks i) e, below i l))
   raise (suc m) c some below h =
       let is : ℕ → Bool = λ i. eqb (clockOf clocks i) c in

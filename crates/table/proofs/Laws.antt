@@ -92,6 +92,43 @@ count-le zero ok = zero-le
 count-le (suc k) ok =
     pick-case (λ (n : ℕ). count k ok + n ≤ suc k) (ok k) 1 0 (λ e. omega (arith, count-le k ok)) (λ e. omega (arith, count-le k ok))
 
+-- a number that counts passes
+passes : (a : Bool) → 0 < pick a 1 0 → a ≡ true
+unfolding pick
+passes true h = refl
+passes false h = absurd (omega arith)
+
+-- a positive count has a number that passes
+pub count-some : (k : ℕ) (ok : ℕ → Bool) → 0 < count k ok → (i : ℕ) × (i < k) × (ok i ≡ true)
+unfolding count
+count-some zero ok h = absurd (omega arith)
+count-some (suc k) ok h =
+    elim (decLt 0 (count k ok)) [
+      | yes p ↦ let (i, below, e) = count-some k ok p in (i, omega arith, e)
+      | no p ↦ (k, omega arith, passes (ok k) (omega arith))
+    ]
+
+-- a test that more numbers pass counts as many or more
+pub count-mono : (k : ℕ) (f g : ℕ → Bool) → ((i : ℕ) → i < k → f i ≡ true → g i ≡ true) → count k f ≤ count k g
+unfolding count
+count-mono zero f g h = omega arith
+count-mono (suc k) f g h =
+    omega (arith, count-mono k f g (λ i l. h i (omega arith)), step (f k) (g k) (h k (omega arith)))
+  where
+    step : (a b : Bool) → (a ≡ true → b ≡ true) → pick a 1 0 ≤ pick b 1 0
+    step true b w = rw (w refl) (omega arith)
+    step false b w = omega arith
+
+-- numbers from n on that don't pass add nothing
+pub count-cut : (k n : ℕ) (ok : ℕ → Bool) → n ≤ k → ((i : ℕ) → n ≤ i → i < k → ok i ≡ false) → count k ok ≡ count n ok
+unfolding count
+count-cut zero n ok l h = let e : n ≡ 0 = omega arith in rw e
+count-cut (suc k) n ok l h =
+    elim (decLe n k) [
+      | yes m ↦ rw (h k m (omega arith)) (omega (arith, count-cut k n ok m (λ i a b. h i a (omega arith))))
+      | no m ↦ let e : n ≡ suc k = omega arith in rw e
+    ]
+
 -- ---- lowest
 
 record Lowest (k : ℕ) (ok : ℕ → Bool) (w : ℕ) : Type 0 where

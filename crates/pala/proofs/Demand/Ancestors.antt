@@ -11,6 +11,7 @@ use borrow.Author.Tests.{eqb-true, eq-eqb, leb-true, le-leb}
 use Rattle.table.specs.declared.Block.{Block}
 use Rattle.table.specs.Scan.{pick}
 use Rattle.table.specs.Rows.{size, at, hasVoter, votes, mostNodes}
+use Rattle.table.proofs.Laws.{count-mono}
 use Rattle.pala.specs.Counts.{quorum}
 use Rattle.pala.specs.Rules.{parentOf, line, every, among, first, notarized, firm}
 use Rattle.pala.proofs.Tests.{and-l, and-r, and-both, or-cases, or-l, or-r}
@@ -18,7 +19,6 @@ use Rattle.pala.proofs.Falls as Falls
 use Rattle.pala.proofs.Falls.{fall-zero, fall-up, every-up, among-zero, among-up}
 use Rattle.pala.proofs.Grown.{Grown, grown-parent}
 use Rattle.pala.proofs.Places.{parent-below, parent-lower}
-use Rattle.pala.proofs.Demand.Quorums.{count-mono}
 
 -- what holds of the genesis, and of a block where it holds of its parent, holds at every place
 pub climb : (t : List Block) (P : ℕ → Type 0) → P 0 → ((p : ℕ) → 0 < p → P (parentOf t p) → P p) → (p : ℕ) → P p

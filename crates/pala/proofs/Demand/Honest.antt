@@ -16,10 +16,10 @@ use Rattle.pala.specs.Effects.{picked, effect}
 use Rattle.pala.specs.Rules.{epochAt, parentOf, notarized}
 use Rattle.pala.specs.Steps.{settled}
 use Rattle.pala.specs.Safety.{Run, eventAt, stateAt, tableAt, Honest, Cast, Held, Book, Premises}
-use Rattle.table.proofs.Laws.{pick-yes, pick-no, same-refl, same-false, not-both}
+use Rattle.table.proofs.Laws.{pick-yes, pick-no, count-cut, same-refl, same-false, not-both}
 use Rattle.pala.proofs.Shapes.{block-voter}
 use Rattle.pala.proofs.Places.{parent-below}
-use Rattle.pala.proofs.Demand.Quorums.{count-cut, overlap}
+use Rattle.pala.proofs.Demand.Quorums.{overlap}
 use Rattle.pala.proofs.Demand.Chains.{Keeps}
 use Rattle.pala.proofs.Demand.Log.{Vote, In, Sane, sane-start}
 use Rattle.pala.proofs.Demand.Ancestors.{notarized-votes}
