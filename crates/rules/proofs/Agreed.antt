@@ -40,6 +40,7 @@ module _ (clocks : List Epoch) (held : length clocks ≡ mostNodes) where
   unfolding clockOf
   clock-past i h = ap (λ (e : Epoch). e .0) (List·getD-eq-default clocks (record { 0 = 0 }) (omega arith))
 
+  -- a number past the clocks has none above 0: those held are enough to ask
   pub shared-held : (n c : ℕ) → 0 < c → leb (quorum n) (count (min n mostNodes) (λ i. reached clocks c i)) ≡ shared n clocks c
   unfolding shared reached
   shared-held n c h =
