@@ -1,4 +1,4 @@
--- "Then, always in this order": the freshest block, the clocks that agree, the candidate and what descends, on small tables. Assumes nothing.
+-- "Then, always in this order": the freshest block, the agreed clock, the candidate and what descends, on small tables. Assumes nothing.
 use Prim.Native.Nat.{ℕ}
 use mathlib.Core.Bool.{true, false}
 use mathlib.Core.List.{List, [], _∷_, map}
