@@ -106,24 +106,6 @@ mod tests {
     use super::*;
 
     #[test]
-    fn quorums_of_the_scope() {
-        let quorums = [
-            (1, 1),
-            (2, 2),
-            (3, 2),
-            (4, 3),
-            (5, 4),
-            (6, 4),
-            (7, 5),
-            (31, 21),
-            (32, 22),
-        ];
-        for (n, q) in quorums {
-            assert_eq!(quorum(n), q, "n = {n}");
-        }
-    }
-
-    #[test]
     fn a_quorum_is_the_least_of_two_thirds() {
         for n in 1..=32 {
             let q = quorum(n);

@@ -4,7 +4,7 @@ mod common;
 
 use common::*;
 use second::rules::{
-    agreed_clock, candidate, freshest, is_or_descends, new_local, normal, notarized, Firm,
+    agreed_clock, candidate, freshest, is_or_descends, new_local, normal, notarized, quorum, Firm,
 };
 use second::state::GENESIS;
 use second::{Block, Epoch, NodeNo, Place, State, Voters};
@@ -128,6 +128,13 @@ fn kind_6_keeps_local_plus_1_as_own_clock() {
     node.take(&minute(0));
     expected.clocks[0] = Epoch(4);
     assert_eq!(node.state, expected);
+}
+
+#[test]
+fn quorums_of_the_scope() {
+    for (n, q) in QUORUMS {
+        assert_eq!(quorum(n), u32::from(q), "n = {n}");
+    }
 }
 
 #[test]

@@ -42,15 +42,7 @@ fn the_examples_byte_by_byte() {
 
 #[test]
 fn a_stuck_hall_line_by_line() {
-    let expected = "\
-1 0 1 0 0
-2 0 1 0 0
-3 0 1 0 0
-4 0 2 1 0
-5 0 2 1 0
-6 0 2 1 0
-7 0 2 1 0
-8 0 3 2 1
+    let after = "\
 9 0 3 2 1
 10 0 3 2 1
 11 0 7 2 1
@@ -68,5 +60,6 @@ end 17
     // 15: 8 8 9 7: it is 8, which two nodes keep.
     // 16 and 17: 8 9 9 7, 8 9 9 9: it is 8, then 9.
     let text = own_text(&example("stuck").unwrap()).unwrap();
-    assert_eq!(String::from_utf8(text).unwrap(), expected);
+    let text = String::from_utf8(text).unwrap();
+    assert_eq!(text, format!("{SESSION_LINES}{after}"));
 }

@@ -1,10 +1,8 @@
 -- The agreed clock, clock by clock. Assumes nothing.
-use Prim.Native.Nat.{ℕ, zero, suc, _+_, _≤_, _<_, max, min}
+use Prim.Native.Nat.{ℕ, _+_, _≤_, _<_, max, min}
 use mathlib.Core.Bool.{Bool, true}
 use mathlib.Core.List.{List}
 use mathlib.Core.Path.{_≡_, sym, ap, _∙_}
-use native.Mathlib.Decide.{decLe}
-use native.Mathlib.Numerals.{add-one}
 use native.Mathlib.Omega.{arith}
 use borrow.Author.Tests.{lt-leb}
 use lib.Dec.{leb}
@@ -12,27 +10,15 @@ use lib.ListN.{length, List·getD-eq-default}
 use Rattle.table.specs.declared.Epoch.{Epoch}
 use Rattle.table.specs.Scan.{pick, count, greatest}
 use Rattle.table.specs.Rows.{mostNodes}
-use Rattle.table.proofs.Laws.{pick-yes, pick-case, count-no, greatest-step}
+use Rattle.table.proofs.Laws.{pick-yes, pick-case, count-no, settles, greatest-step}
 use Rattle.pala.specs.Counts.{quorum, clockOf}
 use Rattle.pala.specs.Rules.{reached, shared, agreed}
 
 -- ---- the clocks
 
--- what changes no more from m on is settled there
-settles : (F : ℕ → ℕ) (m : ℕ) → ((i : ℕ) → m ≤ i → F (i + 1) ≡ F i) → (k : ℕ) → m ≤ k → F k ≡ F m
-settles F m same zero h = ap F (omega arith)
-settles F m same (suc k) h =
-    elim (decLe m k) [
-      | yes l ↦ ap F (sym (add-one k)) ∙ same k l ∙ settles F m same k l
-      | no l ↦ ap F (omega arith)
-    ]
-
+-- what changes no more from m on is at k what it is at the lesser of the two
 settled : (F : ℕ → ℕ) (m : ℕ) → ((i : ℕ) → m ≤ i → F (i + 1) ≡ F i) → (k : ℕ) → F (min k m) ≡ F k
-settled F m same k =
-    elim (decLe m k) [
-      | yes l ↦ ap F (omega arith) ∙ sym (settles F m same k l)
-      | no l ↦ ap F (omega arith)
-    ]
+settled F m same k = sym (settles F (min k m) k (omega arith) (λ i a b. same i (omega arith)))
 
 module _ (clocks : List Epoch) (held : length clocks ≡ mostNodes) where
   -- a number past the clocks has the clock 0

@@ -119,15 +119,18 @@ count-mono (suc k) f g h =
     step true b w = rw (w refl) (omega arith)
     step false b w = omega arith
 
+-- what changes no more from m on is settled there
+pub settles : (F : ℕ → ℕ) (m k : ℕ) → m ≤ k → ((i : ℕ) → m ≤ i → i < k → F (i + 1) ≡ F i) → F k ≡ F m
+settles F m zero l same = ap F (omega arith)
+settles F m (suc k) l same =
+    elim (decLe m k) [
+      | yes h ↦ ap F (sym (add-one k)) ∙ same k h (omega arith) ∙ settles F m k h (λ i a b. same i a (omega arith))
+      | no h ↦ ap F (omega arith)
+    ]
+
 -- numbers from n on that don't pass add nothing
 pub count-cut : (k n : ℕ) (ok : ℕ → Bool) → n ≤ k → ((i : ℕ) → n ≤ i → i < k → ok i ≡ false) → count k ok ≡ count n ok
-unfolding count
-count-cut zero n ok l h = let e : n ≡ 0 = omega arith in rw e
-count-cut (suc k) n ok l h =
-    elim (decLe n k) [
-      | yes m ↦ rw (h k m (omega arith)) (omega (arith, count-cut k n ok m (λ i a b. h i a (omega arith))))
-      | no m ↦ let e : n ≡ suc k = omega arith in rw e
-    ]
+count-cut k n ok l h = settles (λ i. count i ok) n k l (λ i a b. count-no i ok (h i a b))
 
 -- ---- lowest
 

@@ -43,6 +43,18 @@ pub const ONES: Payload = [1; 24];
 /// What an out buffer holds before a call, to see that it is left alone.
 pub const UNTOUCHED: u8 = 0xEE;
 
+/// What `replay` prints for the session's eight records.
+pub const SESSION_LINES: &str = "\
+1 0 1 0 0
+2 0 1 0 0
+3 0 1 0 0
+4 0 2 1 0
+5 0 2 1 0
+6 0 2 1 0
+7 0 2 1 0
+8 0 3 2 1
+";
+
 pub type Bytes = [u8; RECORD_LEN];
 
 /// A record laid out byte by byte, apart from the library's own writing.
