@@ -14,7 +14,7 @@ use lib.Seq.{getD-take, getD-set-same, getD-set-other, length-take-le}
 use Rattle.table.specs.declared.State.{State}
 use Rattle.table.specs.Rows.{capacity, nameBytes}
 use Rattle.table.specs.Scan.{allBelow}
-use Rattle.table.proofs.Laws.{not-both, allBelow-at, allBelow-all, same-all, same-true}
+use Rattle.table.proofs.Laws.{not-both, same-test, allBelow-at, allBelow-all, same-all, same-true}
 use Rattle.pala.specs.Lists.{finalNames, joined}
 use Rattle.pala.specs.Run.{fullList}
 use Rattle.pala.proofs.Shapes
@@ -48,7 +48,7 @@ pub one-begins-is : (a b : List ℕ) (end : ℕ) → end ≡ min (length a) (len
 unfolding oneBegins
 one-begins-is a b end e =
     let ok : ℕ → Bool = λ i. eqb (getD a i 0) (getD b i 0) in
-    Shapes.alike (allBelow end ok) (begins a b || begins b a)
+    same-test (allBelow end ok) (begins a b || begins b a)
     (λ h.
     let byte : (i : ℕ) → i < end → getD a i 0 ≡ getD b i 0 = λ i m. eqb-true (getD a i 0) (getD b i 0) (allBelow-at end ok h i m) in
     elim (decLe (length a) (length b)) [

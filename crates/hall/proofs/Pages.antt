@@ -13,13 +13,13 @@ use Rattle.table.specs.declared.Block.{Block}
 use Rattle.table.specs.Scan.{pick}
 use Rattle.table.specs.Bytes.{same}
 use Rattle.table.specs.Rows.{capacity, nameBytes, payloadBytes, size, at, hasVoter}
-use Rattle.table.proofs.Laws.{not-both, same-refl, same-true}
+use Rattle.table.proofs.Laws.{not-both, same-test, same-refl, same-true}
 use Rattle.pala.specs.Record.{epochOf, parentNameOf, payloadOf, lowFirst, message, proposalHeard}
 use Rattle.pala.specs.Rules.{epochAt, parentOf}
 use Rattle.pala.proofs.Keeps.{size-shaped}
 use Rattle.pala.proofs.Shapes.{shaped-epoch}
 use Rattle.pala.proofs.Tests.{and-l, and-r, and-both, either}
-use Rattle.record.proofs.Laws.{same-test, message-name, message-epoch, message-parent, message-payload}
+use Rattle.record.proofs.Laws.{message-name, message-epoch, message-parent, message-payload}
 use Rattle.accord.specs.declared.Hall.{Hall}
 use Rattle.accord.specs.Head.{mostGateways, gateway, honestIn}
 use Rattle.accord.specs.Rulings.{anyBelow, tableOf, named, shows, Content, alike, contentAt, otherwise}

@@ -8,7 +8,7 @@ use borrow.Author.Tests.{not-true}
 use lib.ListN.{length, take, drop, length-append, length-take, length-drop, take-append-drop}
 use lib.Seq.{length-take-le, take-length, take-append-le, drop-append-le, drop-append-add, drop-at, drop-drop}
 use Rattle.table.specs.Scan.{allBelow}
-use Rattle.table.proofs.Laws.{fails, not-both, allBelow-at, allBelow-all, allBelow-step}
+use Rattle.table.proofs.Laws.{fails, not-both, same-test, allBelow-at, allBelow-all, allBelow-step}
 use Rattle.pala.proofs.Shapes
 use Rattle.lines.specs.Text.{written}
 
@@ -25,7 +25,7 @@ below-next k ok h e = allBelow-step k ok ∙ Shapes.and-both (allBelow k ok) (ok
 -- tests that are the same of each number
 pub below-alike : (k : ℕ) (f g : ℕ → Bool) → ((i : ℕ) → i < k → f i ≡ g i) → allBelow k f ≡ allBelow k g
 below-alike k f g e =
-    Shapes.alike (allBelow k f) (allBelow k g) (λ h. allBelow-all k g (λ i l. sym (e i l) ∙ allBelow-at k f h i l))
+    same-test (allBelow k f) (allBelow k g) (λ h. allBelow-all k g (λ i l. sym (e i l) ∙ allBelow-at k f h i l))
     (λ h. allBelow-all k f (λ i l. e i l ∙ allBelow-at k g h i l))
 
 -- ---- parts

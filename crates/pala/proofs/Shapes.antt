@@ -32,12 +32,6 @@ pub or-of : (a b : Bool) → (a ≡ false → b ≡ true) → (a || b) ≡ true
 or-of true b f = refl
 or-of false b f = f refl
 
--- two tests that pass alike are the same
-pub alike : (a b : Bool) → (a ≡ true → b ≡ true) → (b ≡ true → a ≡ true) → a ≡ b
-alike true b f g = sym (f refl)
-alike false true f g = g refl
-alike false false f g = refl
-
 -- what is asked of the numbers from n on, and of those below it nothing
 pub from-at : (k n : ℕ) (ok : ℕ → Bool) → allBelow k (λ i. ltb i n || ok i) ≡ true → (i : ℕ) → n ≤ i → i < k → ok i ≡ true
 from-at k n ok h i l m = or-r (ltb i n) (ok i) (allBelow-at k (λ j. ltb j n || ok j) h i m) (le-ltb i n l)

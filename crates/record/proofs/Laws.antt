@@ -12,17 +12,9 @@ use lib.ListN.{length, getD, set, take, drop, length-append, length-drop, drop-o
 use lib.Seq.{paste, paste-suc, length-paste, take-paste, take-length, length-take-le, take-all, take-suc, take-at, drop-at, drop-cons}
 use Rattle.table.specs.Bytes.{zeros}
 use Rattle.table.specs.Rows.{nameBytes, payloadBytes}
-use Rattle.table.proofs.Laws.{zeros-true}
+use Rattle.table.proofs.Laws.{same-test, zeros-true}
 use Rattle.pala.specs.Record.{recordBytes, kindOf, senderOf, epochOf, epochField, nameOf, parentNameOf, payloadOf, spare, unusedZero, usesEpoch, usesName, usesParent, usesPayload, lowFirst, message}
 use Rattle.record.specs.declared.Fields.{Fields}
-
--- ---- tests
-
--- two tests that imply one another are the same
-pub same-test : (a b : Bool) → (a ≡ true → b ≡ true) → (b ≡ true → a ≡ true) → a ≡ b
-same-test true b f g = sym (f refl)
-same-test false true f g = g refl
-same-test false false f g = refl
 
 -- ---- zeros
 

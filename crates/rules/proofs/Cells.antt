@@ -11,9 +11,8 @@ use lib.Dec.{ltb}
 use lib.ListN.{length, getD, set, replicate, length-set, length-replicate, getD-replicate}
 use lib.Seq.{ext-getD, getD-set-same, getD-set-other}
 use Rattle.table.specs.Scan.{pick}
-use Rattle.table.proofs.Laws.{pick-yes, pick-no, pick-case}
+use Rattle.table.proofs.Laws.{same-test, pick-yes, pick-no, pick-case}
 use Rattle.rules.specs.Columns.{places, upTo, cell}
-use Rattle.rules.proofs.Counts.{same-test}
 
 -- ---- columns
 

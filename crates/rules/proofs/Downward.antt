@@ -8,11 +8,10 @@ use borrow.Author.Tests.{eqb-true, eq-eqb, ne-eqb}
 use lib.Dec.{eqb}
 use Rattle.table.specs.declared.Place.{Place}
 use Rattle.table.specs.Scan.{pick}
-use Rattle.table.proofs.Laws.{pick-yes, pick-no}
+use Rattle.table.proofs.Laws.{same-test, pick-yes, pick-no}
 use Rattle.pala.specs.Rules.{lower, fall, among}
 use Rattle.pala.proofs.Falls.{lower-below, every-zero, every-up, among-zero, among-up, first-zero, first-up}
 use Rattle.rules.specs.Columns.{firmBy, lastNormalBy}
-use Rattle.rules.proofs.Counts.{same-test}
 
 pub next-is : (e before : ℕ) → 0 < e → eqb (e - 1) before ≡ eqb e (before + 1)
 next-is e before h =

@@ -1,5 +1,4 @@
 -- What the proofs of this crate cite.
-pub mod Counts
 pub mod Cells
 pub mod Downward
 pub mod Searches

@@ -16,7 +16,7 @@ use Rattle.table.specs.declared.State.{State}
 use Rattle.table.specs.Scan.{allBelow, lowest}
 use Rattle.table.specs.Bytes.{same, zeros}
 use Rattle.table.specs.Rows.{capacity, mostNodes, blank, rows, at, hasVoter}
-use Rattle.table.proofs.Laws.{fails, not-both, allBelow-at, allBelow-all, lowest-is, lowest-none, lowest-le, lowest-hit, lowest-below, same-true, at-rows}
+use Rattle.table.proofs.Laws.{fails, not-both, same-test, allBelow-at, allBelow-all, lowest-is, lowest-none, lowest-le, lowest-hit, lowest-below, same-true, at-rows}
 use Rattle.pala.specs.Counts.{topEpoch, blockEpoch, nodes}
 use Rattle.pala.specs.Rules.{epochAt}
 use Rattle.pala.specs.Shape.{votersOk, blockOk, noVoters, isBlank, clocksOk, wellShaped}
@@ -49,7 +49,7 @@ unfolding votersOk hasVoter
 voters-none b e =
     let ok : ℕ → Bool = λ i. not (getD (b .voters) i false) in
     let whole : allBelow mostNodes ok ≡ noVoters (b .voters) = ap (λ (k : ℕ). allBelow k ok) (sym e) ∙ sym (noVoters-below (b .voters)) in
-    Shapes.alike (allBelow mostNodes (λ i. ltb i 0 || ok i)) (noVoters (b .voters))
+    same-test (allBelow mostNodes (λ i. ltb i 0 || ok i)) (noVoters (b .voters))
     (λ h. sym whole ∙ allBelow-all mostNodes ok (λ i m. Shapes.from-at mostNodes 0 ok h i zero-le m))
     (λ h. Shapes.from-all mostNodes 0 ok (λ i l m. allBelow-at mostNodes ok (whole ∙ h) i m))
 
@@ -300,7 +300,7 @@ pub shaped-by-names : (s : State)
 unfolding epochAt
 shaped-by-names s numbers count kept local clocks unused held =
     let t = rows s in
-    Shapes.alike (namesApart s) (wellShaped s)
+    same-test (namesApart s) (wellShaped s)
     (λ names.
     Shapes.shaped-of s (Shapes.nodes-are (s .n) (s .own .0) numbers) count kept local (Shapes.clocks-are (s .n) (s .clocks) clocks)
     (λ p l m. held-block p l m (held-at s held p l m) (names-at s names p)) (unused-at s unused))

@@ -37,6 +37,12 @@ pub fails : (b : Bool) → (b ≡ true → ⊥) → b ≡ false
 fails true h = absurd (h refl)
 fails false h = refl
 
+-- two tests that pass together are the same
+pub same-test : (a b : Bool) → (a ≡ true → b ≡ true) → (b ≡ true → a ≡ true) → a ≡ b
+same-test true b f g = sym (f refl)
+same-test false true f g = g refl
+same-test false false f g = refl
+
 -- ---- pick
 
 pub pick-yes {ℓ} : {A : Type ℓ} (b : Bool) (x y : A) → b ≡ true → pick b x y ≡ x

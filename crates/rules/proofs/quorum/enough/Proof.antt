@@ -1,17 +1,17 @@
--- Three votes for every two nodes. Assumes nothing.
+-- Three votes for every two nodes: the site card's test is 01's. Assumes nothing.
 use borrow.Author.Needs.{needs}
-use Rattle.rules.proofs.Counts.{enough-is}
+use Rattle.pala.proofs.Counts.{card-agrees}
 use Rattle.rules.proofs.quorum.enough.Statement.{statement}
 use Rattle.rules.proofs.quorum.enough.Tie as tie
 
-mul-have : tie.Need-mul-have
-mul-have c = search needs
+mul-result : tie.Need-mul-result
+mul-result c = search needs
 
-mul-need : tie.Need-mul-need
-mul-need c = search needs
+mul-result-2 : tie.Need-mul-result-2
+mul-result-2 c = search needs
 
 returns : tie.Need-returns
-returns c = enough-is (c .args .votes) (c .args .n)
+returns c = card-agrees (c .args .votes) (c .args .n)
 
 pub enough-spec : {M : Type 1} → statement M
-enough-spec = tie.close (tie.spec mul-have mul-need returns)
+enough-spec = tie.close (tie.spec mul-result mul-result-2 returns)

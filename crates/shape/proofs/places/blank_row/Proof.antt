@@ -4,9 +4,9 @@ use borrow.Author.Needs.{needs}
 use borrow.Author.Tests.{not-false, not-true}
 use lib.ListN.{length}
 use Rattle.table.specs.Rows.{mostNodes}
-use Rattle.table.proofs.Laws.{fails, not-both}
+use Rattle.table.proofs.Laws.{fails, not-both, same-test}
 use Rattle.pala.specs.Shape.{isBlank, noVoters}
-use Rattle.pala.proofs.Shapes.{alike, blank-of, blank-tests}
+use Rattle.pala.proofs.Shapes.{blank-of, blank-tests}
 use Rattle.shape.proofs.Laws.{voters-none}
 use Rattle.shape.proofs.places.blank_row.Statement.{statement}
 use Rattle.shape.proofs.places.blank_row.Tie as tie
@@ -48,7 +48,7 @@ returns-5 c =
     let b = named .before .before .before .before .before .args .b in
     c .voters-ok .ensures
     ∙ voters-none b (held (named .before .before .before .before .before))
-    ∙ alike (noVoters (b .voters)) (isBlank b)
+    ∙ same-test (noVoters (b .voters)) (isBlank b)
     (λ v.
     blank-of b
     (record {

@@ -2,9 +2,8 @@
 use mathlib.Core.Path.{_∙_, sym}
 use native.Mathlib.Omega.{arith}
 use borrow.Author.Needs.{needs}
-use Rattle.table.proofs.Laws.{fails, not-both}
+use Rattle.table.proofs.Laws.{fails, not-both, same-test}
 use Rattle.pala.specs.Shape.{votersOk}
-use Rattle.pala.proofs.Shapes.{alike}
 use Rattle.shape.specs.Parts.{inOrder}
 use Rattle.shape.proofs.Laws.{order-of, order-tests}
 use Rattle.shape.proofs.places.in_order.Statement.{statement}
@@ -33,7 +32,7 @@ returns-4 c =
     let named = c .before .before .before in
     let a = named .before .before .before .before .args in
     c .voters-ok .ensures
-    ∙ alike (votersOk (a .n) (a .b)) (inOrder (a .n) (a .up .0) (a .b))
+    ∙ same-test (votersOk (a .n) (a .b)) (inOrder (a .n) (a .up .0) (a .b))
     (λ v.
     order-of _ _ _
     (record {
