@@ -12,7 +12,7 @@ use Rattle.pala.specs.Cases.Look.{theAnswer, theLocal}
 use Rattle.pala.specs.Counts.{noName, noPayload}
 use Rattle.pala.specs.Record.{message, voteHeard, clockHeard, proposeNow, castNow, minuteUp}
 use Rattle.pala.specs.Run.{lent}
-use Rattle.pala.specs.Step.{step, stepShaped, room, start}
+use Rattle.pala.specs.Step.{step, start}
 use Rattle.pala.proofs.States.{propose, castBy, minute, block, table, stateOf, filled}
 
 -- a record and the number that it must answer
@@ -97,10 +97,6 @@ rows-hold = refl
 abbrev put : State → List ℕ → List ℕ → ℕ
 put s r out = number (step s r out .answer)
 
--- .. and at one that has shown to be well shaped: to compute that of a full table takes longer than all other rows
-abbrev putShaped : State → List ℕ → List ℕ → ℕ
-putShaped s r out = number (stepShaped room s r out .answer)
-
 -- node 0 of 4 with A of epoch 4 firm, in a local epoch that is its turn
 abbrev behind : ℕ → State
 behind local = stateOf 4 0 local 1 0 [] (blank ∷ block A 4 0 3 ∷ []) false
@@ -118,8 +114,8 @@ far-rows :
     × (put (behind 4) (propose 0 B) lent ∷ put (behind 8) (propose 0 B) lent ∷ [] ≡ 10 ∷ 0 ∷ [])
     -- 14: "kinds 1, 4: 64 blocks held"
     × (put (filled 64 64) (hear 1 1 new genesisName) lent ∷ put (filled 63 63) (hear 1 1 new genesisName) lent ∷ [] ≡ 14 ∷ 0 ∷ [])
-    × (putShaped (filled 64 64) (propose 0 new) lent ∷ putShaped (filled 63 63) (propose 0 new) lent ∷ [] ≡ 14 ∷ 0 ∷ [])
-unfolding number step stepShaped room lent table blank filled message
+    × (put (filled 64 64) (propose 0 new) lent ∷ put (filled 63 63) (propose 0 new) lent ∷ [] ≡ 14 ∷ 0 ∷ [])
+unfolding number step lent table blank filled message
 far-rows = (refl, refl, refl, refl, refl)
 
 -- what a start answers, by n and own number

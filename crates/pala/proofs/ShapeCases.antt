@@ -7,7 +7,7 @@ use lib.ListN.{replicate, set}
 use Rattle.table.specs.declared.Block.{Block}
 use Rattle.table.specs.declared.Epoch.{Epoch}
 use Rattle.table.specs.declared.State.{State}
-use Rattle.table.specs.Rows.{capacity, mostNodes, blank}
+use Rattle.table.specs.Rows.{mostNodes, blank}
 use Rattle.pala.specs.Cases.{A, B, C, genesisName, onePayload}
 use Rattle.pala.specs.Counts.{noName, noPayload, topEpoch}
 use Rattle.pala.specs.Shape.{wellShaped}
@@ -89,7 +89,7 @@ outOfOrder =
     ∷ unused (strayRow noName noPayload noVoter 3 0)
     ∷ unused (strayRow noName noPayload noVoter 0 1)
     -- the last place, and the genesis's
-    ∷ stateOf 4 0 3 0 0 [] (replicate capacity blank ++ (strayRow noName onePayload noVoter 0 0 ∷ [])) false
+    ∷ filled 64 63
     ∷ stateOf 4 0 3 0 0 [] (strayRow noName onePayload noVoter 0 0 ∷ []) false
     -- "the clocks of numbers at or above n all zero"
     ∷ stateOf 4 0 3 2 0 (replicate 5 (record { 0 = 9 })) two false
