@@ -16,8 +16,9 @@ pub mod Casts
 pub mod Names
 pub mod Honest
 pub mod Safety
--- premises by event, own votes, never taken back, the bytes written
+-- premises by event, own votes, never taken back, the candidate kept, the bytes written
 pub mod Events
 pub mod OwnVotes
 pub mod Onward
+pub mod Latest
 pub mod Shown

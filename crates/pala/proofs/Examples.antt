@@ -1,4 +1,4 @@
--- 01's torn case, each of its "Easy errors here" and M-100's stuck hall, computed on the rules. Assumes nothing.
+-- 01's torn case, each of its "Easy errors here", M-100's stuck hall and M-104's late final, computed on the rules. Assumes nothing.
 use mathlib.Core.Path.{refl}
 use mathlib.Core.List.{List, [], _∷_, _++_}
 use Prim.Native.Nat.{ℕ}
@@ -66,6 +66,23 @@ stuckHall =
     ∷ play (clock 2 9 ∷ []) ((theAnswer, 0 ∷ []) ∷ (theLocal, 9 ∷ []) ∷ [])
     ∷ []
 
+-- 02, M-104: "Take A (epoch 1), B (2, on A) and C (3, on A)."; C's votes and B's third one come in either order
+early : List (List ℕ)
+early = hear 1 1 A genesisName ∷ votes A ++ (hear 2 2 B A ∷ vote 1 B ∷ vote 2 B ∷ hear 3 3 C A ∷ [])
+
+-- "If C becomes firm before B gets its third vote": A is final once B has it
+lateFinal : List Case
+lateFinal =
+    play (early ++ votes C) ((theLocal, 4 ∷ []) ∷ (theBar, 3 ∷ []) ∷ (theFinals, []) ∷ [])
+    ∷ play (vote 3 B ∷ []) ((theLocal, 4 ∷ []) ∷ (theBar, 3 ∷ []) ∷ (theFinals, A) ∷ (theTorn, 0 ∷ []) ∷ [])
+    ∷ []
+
+earlyFinal : List Case
+earlyFinal =
+    play (early ++ (vote 3 B ∷ [])) ((theLocal, 3 ∷ []) ∷ (theBar, 2 ∷ []) ∷ (theFinals, A) ∷ [])
+    ∷ play (votes C) ((theLocal, 4 ∷ []) ∷ (theBar, 3 ∷ []) ∷ (theFinals, A) ∷ (theTorn, 0 ∷ []) ∷ [])
+    ∷ []
+
 torn-holds : Holds 4 torn
 unfolding began shown musts session torn
 torn-holds = refl
@@ -93,3 +110,11 @@ half-holds = refl
 stuck-hall-holds : Holds 4 stuckHall
 unfolding began shown musts session stuckHall
 stuck-hall-holds = refl
+
+late-holds : Holds 4 lateFinal
+unfolding began shown musts early lateFinal
+late-holds = refl
+
+early-holds : Holds 4 earlyFinal
+unfolding began shown musts early earlyFinal
+early-holds = refl

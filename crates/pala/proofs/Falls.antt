@@ -9,8 +9,8 @@ use native.Mathlib.Omega.{arith}
 use lib.Dec.{eqb, ltb}
 use borrow.Author.Tests.{lt-ltb, le-ltb, ne-eqb}
 use Rattle.table.specs.Scan.{pick}
-use Rattle.table.proofs.Laws.{pick-yes, pick-no, pick-case}
-use Rattle.pala.specs.Rules.{lower, fallIn, fall, every, among, first}
+use Rattle.table.proofs.Laws.{pick-yes, pick-no}
+use Rattle.pala.specs.Rules.{lower, fallIn, fall, every, among}
 
 -- ---- the next place down
 
@@ -108,12 +108,3 @@ among-zero a up = ap (among a) (fall-zero up)
 pub among-up : (a : ℕ) (up : ℕ → ℕ) (p : ℕ) → 0 < p → among a (fall up p) ≡ (eqb p a || among a (fall up (lower up p)))
 unfolding among
 among-up a up p h = ap (among a) (fall-up up p h)
-
-pub first-zero : (ok : ℕ → Bool) (up : ℕ → ℕ) → first ok (fall up 0) ≡ 0
-unfolding first
-first-zero ok up =
-    ap (first ok) (fall-zero up) ∙ pick-case (λ (x : ℕ). x ≡ 0) (ok 0) 0 0 (λ e. refl) (λ e. refl)
-
-pub first-up : (ok : ℕ → Bool) (up : ℕ → ℕ) (p : ℕ) → 0 < p → first ok (fall up p) ≡ pick (ok p) p (first ok (fall up (lower up p)))
-unfolding first
-first-up ok up p h = ap (first ok) (fall-up up p h)

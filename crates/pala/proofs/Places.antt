@@ -1,20 +1,20 @@
 -- The places that the rules go by: a name's, a parent's, the freshest block's, the candidate's, and what a block that may be voted for
 -- has. Assumes nothing.
 use Prim.Native.Nat.{ℕ, _≤_, _<_}
-use mathlib.Core.Bool.{Bool, true, false, not}
+use mathlib.Core.Bool.{true, false, not, _&&_}
 use mathlib.Core.List.{List}
-use mathlib.Core.Logic.{_≢_, ⊎-elim}
-use mathlib.Core.Path.{_≡_, sym, ap, subst, _∙_}
+use mathlib.Core.Logic.{_≢_}
+use mathlib.Core.Path.{_≡_, ap, _∙_}
 use native.Mathlib.Omega.{arith}
 use lib.Dec.{eqb, ltb, leb}
 use borrow.Author.Tests.{ltb-true, leb-true, eqb-true, eqb-false, not-true}
 use Rattle.table.specs.declared.Block.{Block}
 use Rattle.table.specs.Bytes.{same}
 use Rattle.table.specs.Rows.{size, at, find}
-use Rattle.table.proofs.Laws.{not-both, pick-case, lowest-hit, lowest-below, highest-passes, same-refl, same-true}
-use Rattle.pala.specs.Rules.{epochAt, lower, fall, parentOf, line, first, firm, freshest, votable, normal, candidate}
+use Rattle.table.proofs.Laws.{not-both, lowest-hit, lowest-below, highest-in, same-refl, same-true}
+use Rattle.pala.specs.Rules.{epochAt, parentOf, firm, freshest, votable, normal, freshestNormal, candidate}
 use Rattle.pala.proofs.Tests.{and-l, and-r}
-use Rattle.pala.proofs.Falls.{lower-is, lower-zero, lower-below, lower-le, climb, first-zero, first-up}
+use Rattle.pala.proofs.Falls.{lower-is, lower-zero, lower-below, lower-le}
 
 -- ---- a name's place
 
@@ -55,27 +55,15 @@ module _ (t : List Block) where
 
 pub freshest-in : (n : ℕ) (t : List Block) → 0 < size t → freshest n t < size t
 unfolding freshest
-freshest-in n t h =
-    ⊎-elim (λ (e : freshest n t ≡ 0). omega arith) (λ (e : (freshest n t < size t) × (firm n t (freshest n t) ≡ true)). e .0)
-    (highest-passes (size t) (λ p. firm n t p) (λ p. epochAt t p))
-
-first-low : (ok : ℕ → Bool) (up : ℕ → ℕ) (p : ℕ) → first ok (fall up p) ≤ p
-first-low ok up =
-    climb up (λ (p : ℕ). first ok (fall up p) ≤ p) (omega (arith, first-zero ok up))
-    (λ p h ih.
-    subst (λ (x : ℕ). x ≤ p) (sym (first-up ok up p h))
-    (pick-case (λ (x : ℕ). x ≤ p) (ok p) p (first ok (fall up (lower up p))) (λ e. omega arith)
-    (λ e. omega (arith, lower-below up p h))))
+freshest-in n t = highest-in (size t) (λ p. firm n t p) (λ p. epochAt t p)
 
 pub candidate-in : (n : ℕ) (t : List Block) → 0 < size t → candidate n t < size t
-unfolding candidate line
+unfolding candidate freshestNormal
 candidate-in n t h =
-    let normals : ℕ → Bool = λ p. normal t p in
     omega (
       arith,
-      freshest-in n t h,
-      first-low normals (λ a. at t a .parent .0) (freshest n t),
-      parent-lower t (first normals (line t (freshest n t))),
+      highest-in (size t) (λ p. firm n t p && normal t p) (λ p. epochAt t p) h,
+      parent-lower t (freshestNormal n t),
     )
 
 -- ---- "A block may be voted for when ..", part by part

@@ -52,10 +52,17 @@ ballot-is :
 unfolding ballot blank
 ballot-is = (refl, refl)
 
--- "Candidate: the parent of the last normal block on the freshest chain; genesis if there is none"
+-- 02, M-104: "the parent of the firm normal block of highest epoch ..; genesis if none"
 candidate-is :
-    (candidate 4 (blank ∷ voted 1 0 ∷ voted 2 1 ∷ voted 4 2 ∷ voted 5 3 ∷ voted 6 3 ∷ []) ≡ 1)
+    (candidate 4 (blank ∷ voted 1 0 ∷ voted 2 1 ∷ voted 4 2 ∷ voted 5 3 ∷ voted 6 3 ∷ []) ≡ 3)
     × (candidate 4 (blank ∷ voted 1 0 ∷ voted 2 1 ∷ voted 4 2 ∷ voted 5 3 ∷ voted 7 4 ∷ []) ≡ 3)
     × (candidate 4 (blank ∷ voted 2 0 ∷ voted 4 1 ∷ []) ≡ 0)
 unfolding candidate blank
 candidate-is = (refl, refl, refl)
+
+-- ".. lowest place among equals"; a normal block that lacks votes, or whose parent does, is not firm
+candidate-among :
+    (candidate 4 (blank ∷ voted 1 0 ∷ voted 1 0 ∷ voted 2 2 ∷ voted 2 1 ∷ []) ≡ 2)
+    × (candidate 4 (blank ∷ voted 1 0 ∷ voted 2 1 ∷ short 3 2 ∷ voted 4 3 ∷ []) ≡ 1)
+unfolding candidate blank
+candidate-among = (refl, refl)

@@ -41,7 +41,7 @@ unfoldable pub line : List Block → ℕ → List ℕ
 unfolding fall at
 line t p = fall (λ a. at t a .parent .0) p
 
--- does every number of the list pass; is one of them a; the first that passes, 0 where none does
+-- does every number of the list pass; is one of them a
 unfoldable pub every : (ℕ → Bool) → List ℕ → Bool
 every ok [] = true
 every ok (x ∷ l) = ok x && every ok l
@@ -49,11 +49,6 @@ every ok (x ∷ l) = ok x && every ok l
 unfoldable pub among : ℕ → List ℕ → Bool
 among a [] = false
 among a (x ∷ l) = eqb x a || among a l
-
-unfoldable pub first : (ℕ → Bool) → List ℕ → ℕ
-unfolding pick
-first ok [] = 0
-first ok (x ∷ l) = pick (ok x) x (first ok l)
 
 -- "A block is notarized at q voters"; the genesis is "notarized by decree"
 unfoldable pub notarized : ℕ → List Block → ℕ → Bool
@@ -106,10 +101,15 @@ unfoldable pub normal : List Block → ℕ → Bool
 unfolding epochAt parentOf
 normal t p = eqb (epochAt t p) (epochAt t (parentOf t p) + 1)
 
--- "Candidate: the parent of the last normal block on the freshest chain; genesis if there is none"
+-- 02, M-104: "the firm normal block of highest epoch, lowest place among equals"; where there is none the genesis, which isn't normal
+unfoldable pub freshestNormal : ℕ → List Block → ℕ
+unfolding highest firm normal epochAt
+freshestNormal n t = highest (size t) (λ p. firm n t p && normal t p) (λ p. epochAt t p)
+
+-- "Candidate in step 5 becomes the parent of" it; "genesis if none"
 unfoldable pub candidate : ℕ → List Block → ℕ
-unfolding parentOf first normal line freshest
-candidate n t = parentOf t (first (λ p. normal t p) (line t (freshest n t)))
+unfolding parentOf freshestNormal
+candidate n t = parentOf t (freshestNormal n t)
 
 -- "the candidate is the kept final block or descends from it": p is a or descends from it
 unfoldable pub descends : List Block → ℕ → ℕ → Bool

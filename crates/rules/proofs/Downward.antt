@@ -1,4 +1,4 @@
--- One step down a chain: firm, the last normal block, descent. Assumes nothing.
+-- An epoch that is another plus 1, and one step down a chain: firm, descent. Assumes nothing.
 use Prim.Native.Nat.{ℕ, _+_, _-_, _<_}
 use mathlib.Core.Bool.{Bool, true, false, _&&_, _||_}
 use mathlib.Core.Path.{_≡_, ap, _∙_}
@@ -7,11 +7,10 @@ use native.Mathlib.Omega.{arith}
 use borrow.Author.Tests.{eqb-true, eq-eqb, ne-eqb}
 use lib.Dec.{eqb}
 use Rattle.table.specs.declared.Place.{Place}
-use Rattle.table.specs.Scan.{pick}
-use Rattle.table.proofs.Laws.{same-test, pick-yes, pick-no}
+use Rattle.table.proofs.Laws.{same-test}
 use Rattle.pala.specs.Rules.{lower, fall, among}
-use Rattle.pala.proofs.Falls.{lower-below, every-zero, every-up, among-zero, among-up, first-zero, first-up}
-use Rattle.rules.specs.Columns.{firmBy, lastNormalBy}
+use Rattle.pala.proofs.Falls.{lower-below, every-zero, every-up, among-zero, among-up}
+use Rattle.rules.specs.Columns.{firmBy}
 
 pub next-is : (e before : ℕ) → 0 < e → eqb (e - 1) before ≡ eqb e (before + 1)
 next-is e before h =
@@ -19,7 +18,7 @@ next-is e before h =
     (λ y. eq-eqb e (before + 1) (omega (arith, eqb-true (e - 1) before y)))
     (λ y. eq-eqb (e - 1) before (omega (arith, eqb-true e (before + 1) y)))
 
--- ---- chains: the next place down, then firm, the last normal block and descent, each one step down
+-- ---- chains: the next place down, then firm and descent, each one step down
 
 -- from any place but the genesis's the next one down is lower
 pub next-below : (up : ℕ → ℕ) (p t : ℕ) (q : Place) → p ≡ t → (p ≡ 0 → ⊥) → q ≡ record { 0 = lower up p } → q .0 < t
@@ -41,25 +40,6 @@ module _ (up : ℕ → ℕ) (mark : ℕ → Bool) (p : ℕ) where
 
   pub firm-down : (p ≡ 0 → ⊥) → mark p ≡ true → firmBy up mark p ≡ firmBy up mark (lower up p)
   firm-down h m = firm-up h ∙ ap (λ (b : Bool). b && firmBy up mark (lower up p)) m
-
-module _ (up epoch : ℕ → ℕ) (p : ℕ) where
-  -- is a block normal: "its epoch is its parent's plus 1"
-  abbrev next : ℕ → Bool
-  next a = eqb (epoch a) (epoch (lower up a) + 1)
-
-  pub normal-zero : p ≡ 0 → lastNormalBy up epoch p ≡ p
-  unfolding lastNormalBy
-  normal-zero e = rw e (first-zero next up)
-
-  normal-up : (p ≡ 0 → ⊥) → lastNormalBy up epoch p ≡ pick (next p) p (lastNormalBy up epoch (lower up p))
-  unfolding lastNormalBy
-  normal-up h = first-up next up p (omega arith)
-
-  pub normal-here : (p ≡ 0 → ⊥) → next p ≡ true → lastNormalBy up epoch p ≡ p
-  normal-here h m = normal-up h ∙ pick-yes (next p) p (lastNormalBy up epoch (lower up p)) m
-
-  pub normal-down : (p ≡ 0 → ⊥) → next p ≡ false → lastNormalBy up epoch p ≡ lastNormalBy up epoch (lower up p)
-  normal-down h m = normal-up h ∙ pick-no (next p) p (lastNormalBy up epoch (lower up p)) m
 
 module _ (up : ℕ → ℕ) (p a : ℕ) where
   among-down : (p ≡ 0 → ⊥) → among a (fall up p) ≡ (eqb p a || among a (fall up (lower up p)))

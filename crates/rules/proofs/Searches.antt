@@ -1,4 +1,4 @@
--- The scans and their definitions: the freshest block, and the ballot. Assumes nothing.
+-- The scans and their definitions: the freshest block and the freshest normal one, and the ballot. Assumes nothing.
 use Prim.Native.Nat.{ℕ, zero, suc, _+_, _-_, _≤_, _<_, zero-le}
 use mathlib.Core.Bool.{Bool, true, false, not, _&&_, and-eq-true-iff}
 use mathlib.Core.Path.{_≡_, refl, sym, ap, subst, _∙_}
@@ -9,6 +9,7 @@ use Rattle.table.specs.Scan.{pick, highest}
 use Rattle.table.specs.Rows.{at}
 use Rattle.table.proofs.Laws.{pick-yes, pick-no, pick-case, highest-step}
 use Rattle.pala.specs.Rules.{lower}
+use Rattle.rules.specs.declared.Top.{Top}
 use Rattle.rules.specs.Columns.{firmBy, openBy, votableBy}
 
 -- ---- the freshest: a scan downward, against the definition's direction
@@ -64,6 +65,20 @@ module _ (ok : ℕ → Bool) (rank : ℕ → ℕ) where
 
     pub joined-taken : ok (k - 1) ≡ true → top ≤ rank (k - 1) → joined k best top ≡ joined (k - 1) (k - 1) (rank (k - 1))
     joined-taken y h = ap (λ (j : ℕ). joined j best top) (omega arith) ∙ taken (k - 1) best top y h
+
+  -- what is left below k, and the best of what was passed
+  abbrev pub against : ℕ → Top → ℕ
+  against k best = joined k (best .place .0) (best .epoch .0)
+
+  -- a turn that asks both: the block at k - 1 wins, or what was best stays
+  pub against-turn : (k : ℕ) (here best : Top) (wins : Bool) → 1 < k → here ≡ record { place = record { 0 = k - 1 }; epoch = record { 0 = rank (k - 1) } }
+      → (wins ≡ true → (ok (k - 1) ≡ true) × (best .epoch .0 ≤ rank (k - 1)))
+      → (wins ≡ false → ok (k - 1) ≡ true → rank (k - 1) < best .epoch .0)
+      → against k best ≡ against (k - 1) (pick wins here best)
+  against-turn k here best wins more e win lose =
+      pick-case (λ (w : Top). against k best ≡ against (k - 1) w) wins here best
+      (λ y. joined-taken k (best .place .0) (best .epoch .0) more (win y .0) (win y .1) ∙ ap (against (k - 1)) (sym e))
+      (λ n. joined-passed k (best .place .0) (best .epoch .0) more (lose n))
 
   -- below 1 there is only 0
   highest-one : (k : ℕ) → k ≤ 1 → highest k ok rank ≡ 0

@@ -14,13 +14,14 @@ use Rattle.table.specs.Scan.{count, lowest}
 use Rattle.table.specs.Rows.{rows, size, at, votes}
 use Rattle.table.proofs.Laws.{at-out, at-rows, size-rows}
 use Rattle.pala.specs.Counts.{quorum}
-use Rattle.pala.specs.Rules.{epochAt, lower, fall, among, line, parentOf, notarized, firm, normal, votable, freshest, ballot, candidate, descends, agreed}
+use Rattle.pala.specs.Rules.{epochAt, lower, fall, among, line, parentOf, notarized, firm, normal, votable, freshest, ballot, freshestNormal, candidate, descends, agreed}
 use Rattle.pala.specs.Steps.{freshEpoch, forward}
 use Rattle.rules.specs.declared.columns.Columns.{Columns}
-use Rattle.rules.specs.Columns.{places, upTo, cell, numberAt, markAt, upOf, markOf, columns, firmBy, freshestBy, lastNormalBy, votableBy}
+use Rattle.rules.specs.Columns.{places, upTo, cell, numberAt, markAt, upOf, markOf, columns, firmBy, freshestBy, normalBy, freshestNormalBy, votableBy}
 use Rattle.rules.specs.declared.Standing.{Standing}
 use Rattle.rules.specs.declared.Top.{Top}
-use Rattle.rules.specs.Standing.{standingBy}
+use Rattle.rules.specs.declared.scans.Tops.{Tops}
+use Rattle.rules.specs.Standing.{standingBy, topsBy}
 use Rattle.rules.proofs.Cells.{cell-upTo, made, made-end, made-start, made-step}
 
 -- ---- the columns of a state
@@ -98,23 +99,24 @@ module _ (s : State) (held : length (s .blocks) ≡ places) where
     unfolding freshEpoch
     fresh-shown = shown (λ _ _ epoch _. epoch (freshest (s .n) (rows s))) c e
 
-    pub top-shown : (top : Place) (fresh : Epoch)
-        → top ≡ record { 0 = freshestBy (c .size) (numberAt (c .parents)) (numberAt (c .epochs)) (markAt (c .marks)) }
-        → fresh ≡ record { 0 = numberAt (c .epochs) (top .0) }
-        → _≡_ {A = Top} (record { place = top; epoch = fresh }) (record { place = record { 0 = freshest (s .n) (rows s) }; epoch = record { 0 = freshEpoch s } })
-    top-shown top fresh top-is fresh-is =
-        let at : top ≡ record { 0 = freshest (s .n) (rows s) } = top-is ∙ ap (λ (k : ℕ). record { 0 = k }) freshest-shown in
+    pub top-shown : (tops : Tops) (fresh : Epoch)
+        → tops ≡ topsBy (c .size) (numberAt (c .parents)) (numberAt (c .epochs)) (markAt (c .marks))
+        → fresh ≡ record { 0 = numberAt (c .epochs) (tops .fresh .0) }
+        → _≡_ {A = Top} (record { place = tops .fresh; epoch = fresh }) (record { place = record { 0 = freshest (s .n) (rows s) }; epoch = record { 0 = freshEpoch s } })
+    unfolding topsBy
+    top-shown tops fresh tops-is fresh-is =
+        let at : tops .fresh ≡ record { 0 = freshest (s .n) (rows s) } = ap (λ (w : Tops). w .fresh) tops-is ∙ ap (λ (k : ℕ). record { 0 = k }) freshest-shown in
         let of : fresh ≡ record { 0 = freshEpoch s } =
         fresh-is ∙ ap (λ (q : Place). record { 0 = numberAt (c .epochs) (q .0) }) at ∙ ap (λ (k : ℕ). record { 0 = k }) fresh-shown in
         λ i. record { place = at i; epoch = of i }
 
-    -- the freshest block, the last normal one on its chain, that one's parent, and what is told of them
+    -- the freshest block, the freshest normal one, that one's parent, and what is told of them
     pub standing-shown : standingBy c (s .clocks) (s .n) (s .local .0) (s .kept .0) ≡ standing s
-    unfolding standingBy standing freshEpoch forward descends line candidate parentOf normal freshest freshestBy firmBy firm notarized lastNormalBy upOf markOf
+    unfolding standingBy standing topsBy freshEpoch forward descends line candidate parentOf normal freshest freshestNormal freshestBy freshestNormalBy firmBy firm notarized normalBy upOf markOf
     standing-shown =
         shown
         (λ k up epoch mark.
-        let next : ℕ = lower up (lastNormalBy up epoch (freshestBy k up epoch mark)) in
+        let next : ℕ = lower up (freshestNormalBy k up epoch mark) in
         record {
           fresh = record { 0 = epoch (freshestBy k up epoch mark) };
           clock = record { 0 = max (s .local .0) (agreed (s .n) (s .clocks)) };
@@ -133,21 +135,21 @@ module _ (c : Columns) (clocks : List Epoch) (n local kept : ℕ) where
   epoch : ℕ → ℕ
   epoch = numberAt (c .epochs)
 
-  pub standing-made : (top last cand : Place) (fresh clock : Epoch) (fwd back : Bool)
-      → top ≡ record { 0 = freshestBy (c .size) (numberAt (c .parents)) (numberAt (c .epochs)) (markAt (c .marks)) }
-      → last ≡ record { 0 = lastNormalBy (numberAt (c .parents)) (numberAt (c .epochs)) (top .0) }
-      → cand ≡ record { 0 = lower (numberAt (c .parents)) (last .0) }
-      → fresh ≡ record { 0 = numberAt (c .epochs) (top .0) }
+  tops : Tops
+  tops = topsBy (c .size) up epoch (markAt (c .marks))
+
+  pub standing-made : (found : Tops) (cand : Place) (fresh clock : Epoch) (fwd back : Bool)
+      → found ≡ topsBy (c .size) (numberAt (c .parents)) (numberAt (c .epochs)) (markAt (c .marks))
+      → cand ≡ record { 0 = lower (numberAt (c .parents)) (found .normal .0) }
+      → fresh ≡ record { 0 = numberAt (c .epochs) (found .fresh .0) }
       → clock ≡ record { 0 = max local (agreed n clocks) }
       → fwd ≡ among kept (fall (numberAt (c .parents)) (cand .0))
       → back ≡ among (cand .0) (fall (numberAt (c .parents)) kept)
       → record { fresh = fresh; clock = clock; candidate = cand; forward = fwd; back = back } ≡ standingBy c clocks n local kept
-  unfolding standingBy up epoch
-  standing-made top last cand fresh clock fwd back top-is last-is cand-is fresh-is clock-is fwd-is back-is =
-      let top-at : top .0 ≡ freshestBy (c .size) up epoch (markAt (c .marks)) = ap (λ (q : Place). q .0) top-is in
-      let cand-at : cand ≡ record { 0 = lower up (lastNormalBy up epoch (freshestBy (c .size) up epoch (markAt (c .marks)))) } =
-      cand-is ∙ ap (λ (q : Place). record { 0 = lower up (q .0) }) last-is ∙ ap (λ (k : ℕ). record { 0 = lower up (lastNormalBy up epoch k) }) top-at in
-      let fresh-at = fresh-is ∙ ap (λ (k : ℕ). record { 0 = epoch k }) top-at in
+  unfolding standingBy up epoch tops
+  standing-made found cand fresh clock fwd back found-is cand-is fresh-is clock-is fwd-is back-is =
+      let cand-at : cand ≡ record { 0 = lower up (tops .normal .0) } = cand-is ∙ ap (λ (w : Tops). record { 0 = lower up (w .normal .0) }) found-is in
+      let fresh-at = fresh-is ∙ ap (λ (w : Tops). record { 0 = epoch (w .fresh .0) }) found-is in
       let fwd-at = fwd-is ∙ ap (λ (q : Place). among kept (fall up (q .0))) cand-at in
       let back-at = back-is ∙ ap (λ (q : Place). among (q .0) (fall up kept)) cand-at in
       λ i. record { fresh = fresh-at i; clock = clock-is i; candidate = cand-at i; forward = fwd-at i; back = back-at i }

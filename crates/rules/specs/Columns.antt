@@ -10,7 +10,7 @@ use Rattle.table.specs.declared.State.{State}
 use Rattle.table.specs.Scan.{pick, highest}
 use Rattle.table.specs.Rows.{capacity, rows, size, at, votes}
 use Rattle.pala.specs.Counts.{quorum}
-use Rattle.pala.specs.Rules.{epochAt, lower, fall, every, first}
+use Rattle.pala.specs.Rules.{epochAt, lower, fall, every}
 use Rattle.rules.specs.declared.columns.Columns.{Columns}
 
 -- "place 0" and "places 1 to 64"
@@ -63,10 +63,15 @@ unfoldable pub freshestBy : ℕ → (ℕ → ℕ) → (ℕ → ℕ) → (ℕ →
 unfolding highest firmBy
 freshestBy k up epoch mark = highest k (λ p. firmBy up mark p) epoch
 
--- "A block is normal when its epoch is its parent's plus 1"; the last one on the way down from a place
-unfoldable pub lastNormalBy : (ℕ → ℕ) → (ℕ → ℕ) → ℕ → ℕ
-unfolding first lower fall
-lastNormalBy up epoch p = first (λ a. eqb (epoch a) (epoch (lower up a) + 1)) (fall up p)
+-- "A block is normal when its epoch is its parent's plus 1"
+unfoldable pub normalBy : (ℕ → ℕ) → (ℕ → ℕ) → ℕ → Bool
+unfolding lower
+normalBy up epoch p = eqb (epoch p) (epoch (lower up p) + 1)
+
+-- 02, M-104: "the firm normal block of highest epoch, lowest place among equals"
+unfoldable pub freshestNormalBy : ℕ → (ℕ → ℕ) → (ℕ → ℕ) → (ℕ → Bool) → ℕ
+unfolding highest firmBy normalBy
+freshestNormalBy k up epoch mark = highest k (λ p. firmBy up mark p && normalBy up epoch p) epoch
 
 -- "its epoch is the local epoch, its parent is firm, the parent's epoch is at least the bar"
 unfoldable pub openBy : (ℕ → ℕ) → (ℕ → ℕ) → (ℕ → Bool) → ℕ → ℕ → ℕ → Bool

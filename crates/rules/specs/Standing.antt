@@ -1,21 +1,32 @@
 -- What the five steps need of a table's columns and of what stands beside it.
 use Prim.Native.Nat.{ℕ, max}
+use mathlib.Core.Bool.{Bool}
 use mathlib.Core.List.{List}
 use Rattle.table.specs.declared.Epoch.{Epoch}
 use Rattle.pala.specs.Rules.{lower, fall, among, agreed}
 use Rattle.rules.specs.declared.Standing.{Standing}
 use Rattle.rules.specs.declared.columns.Columns.{Columns}
-use Rattle.rules.specs.Columns.{numberAt, markAt, freshestBy, lastNormalBy}
+use Rattle.rules.specs.declared.scans.Tops.{Tops}
+use Rattle.rules.specs.Columns.{numberAt, markAt, freshestBy, freshestNormalBy}
+
+-- the freshest block and the freshest normal one
+unfoldable pub topsBy : ℕ → (ℕ → ℕ) → (ℕ → ℕ) → (ℕ → Bool) → Tops
+unfolding freshestBy freshestNormalBy
+topsBy k up epoch mark =
+    record {
+      fresh = record { 0 = freshestBy k up epoch mark };
+      normal = record { 0 = freshestNormalBy k up epoch mark };
+    }
 
 unfoldable pub standingBy : Columns → List Epoch → ℕ → ℕ → ℕ → Standing
-unfolding numberAt markAt freshestBy lastNormalBy lower fall among agreed
+unfolding topsBy lower fall among agreed
 standingBy c clocks n local kept =
     let up : ℕ → ℕ = numberAt (c .parents) in
     let epoch : ℕ → ℕ = numberAt (c .epochs) in
-    let top : ℕ = freshestBy (c .size) up epoch (markAt (c .marks)) in
-    let next : ℕ = lower up (lastNormalBy up epoch top) in
+    let tops : Tops = topsBy (c .size) up epoch (markAt (c .marks)) in
+    let next : ℕ = lower up (tops .normal .0) in
     record {
-      fresh = record { 0 = epoch top };
+      fresh = record { 0 = epoch (tops .fresh .0) };
       clock = record { 0 = max local (agreed n clocks) };
       candidate = record { 0 = next };
       forward = among kept (fall up next);

@@ -9,7 +9,7 @@ ghost use mathlib.Core.Path.{_≡_};
 ghost use Prim.Native.Nat.{_+_};
 ghost use lib.Dec.{eqb};
 ghost use Rattle.pala.specs.Rules.{among, fall};
-ghost use Rattle.rules.specs.Columns.{firmBy, lastNormalBy, markAt, numberAt};
+ghost use Rattle.rules.specs.Columns.{firmBy, markAt, normalBy, numberAt};
 
 // "its parent's plus 1"
 const STEP: u32 = 1;
@@ -37,18 +37,12 @@ fn is_next(e: Epoch, before: Epoch) -> bool
     e.0 - STEP == before.0
 }
 
-// "the last normal block" on the way down from a place; the genesis if there is none
-pub fn last_normal<'a>(parents: &'a [u32; 65], epochs: &'a [u32; 65], p: Place) -> Place
-    ensures { λ r. ⌜ r ≡ record { 0 = lastNormalBy (numberAt (now (parents .entry))) (numberAt (now (epochs .entry))) (p .0) } ⌝ }
+// "A block is normal when its epoch is its parent's plus 1"
+pub fn normal(parents: &[u32; 65], epochs: &[u32; 65], p: Place) -> bool
+    ensures { λ r. ⌜ r ≡ normalBy (numberAt (now (parents .entry))) (numberAt (now (epochs .entry))) (p .0) ⌝ }
 {
-    if p.0 == 0 {
-        return p;
-    }
     let parent = lower_at(parents, p);
-    if is_next(epoch_at(epochs, p), epoch_at(epochs, parent)) {
-        return p;
-    }
-    last_normal(parents, epochs, parent)
+    is_next(epoch_at(epochs, p), epoch_at(epochs, parent))
 }
 
 // Is a place the other "or descends from it".

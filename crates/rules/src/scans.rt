@@ -1,44 +1,84 @@
 // Searches over the places of a table.
 
+use crate::Top;
 use crate::chains::firm;
+use crate::chains::normal;
 use crate::lookups::epoch_at;
 use crate::lookups::lower_at;
 use table::Epoch;
 use table::Place;
 ghost use mathlib.Core.Path.{_≡_};
-ghost use Rattle.table.specs.Scan.{lowest};
-ghost use Rattle.rules.specs.Columns.{freshestBy, markAt, numberAt, openBy, votableBy};
+ghost use lib.Dec.{ltb};
+ghost use Rattle.table.specs.Scan.{lowest, pick};
+ghost use Rattle.rules.specs.Columns.{markAt, numberAt, openBy, votableBy};
+ghost use Rattle.rules.specs.Standing.{topsBy};
 
-// "the firm block of highest epoch; of equals the lowest place": downward, and only a block that could win is asked for firmness.
-// The genesis, firm by decree and lowest, wins unless a block is above its epoch.
-pub fn freshest_of<'a>(
+// The freshest block, and M-104's "firm normal block of highest epoch".
+pub struct Tops {
+    pub fresh: Place,
+    pub normal: Place,
+}
+
+// What has won by now: the block at hand or the one of before.
+fn winner(wins: bool, here: Top, best: Top) -> Top
+    ensures { λ r. ⌜ r ≡ pick wins here best ⌝ }
+{
+    if wins {
+        return here;
+    }
+    best
+}
+
+// The place that won; the genesis, which is the lowest, unless a block is above its epoch.
+fn won(root: Epoch, best: Top) -> Place
+    ensures { λ r. ⌜ r ≡ record { 0 = pick (ltb (root .0) (best .epoch .0)) (best .place .0) 0 } ⌝ }
+{
+    if root.0 < best.epoch.0 {
+        return best.place;
+    }
+    Place(0)
+}
+
+// "of highest epoch; of equals the lowest place": downward, once for both, and only a block that could win is asked for firmness.
+pub fn tops_of<'a>(
     parents: &'a [u32; 65],
     epochs: &'a [u32; 65],
     marks: &'a [bool; 65],
     size: u32,
-) -> Place
-    ensures { λ r. ⌜ r ≡ record { 0 = freshestBy size (numberAt (now (parents .entry))) (numberAt (now (epochs .entry))) (markAt (now (marks .entry))) } ⌝ }
+) -> Tops
+    ensures { λ r. ⌜ r ≡ topsBy size (numberAt (now (parents .entry))) (numberAt (now (epochs .entry))) (markAt (now (marks .entry))) ⌝ }
 {
-    let mut best: u32 = 0;
-    let mut top: u32 = 0;
+    let mut fresh = Top {
+        place: Place(0),
+        epoch: Epoch(0),
+    };
+    let mut last = fresh;
     let mut k = size;
     while 1 < k {
         k -= 1;
-        let e = epoch_at(epochs, Place(k));
-        if e.0 < top {
+        let here = Top {
+            place: Place(k),
+            epoch: epoch_at(epochs, Place(k)),
+        };
+        if here.epoch.0 < last.epoch.0 {
+            continue;
+        }
+        let fresher = fresh.epoch.0 <= here.epoch.0;
+        let next = normal(parents, epochs, Place(k));
+        if !(fresher | next) {
             continue;
         }
         if !firm(parents, marks, Place(k)) {
             continue;
         }
-        best = k;
-        top = e.0;
+        fresh = winner(fresher, here, fresh);
+        last = winner(next, here, last);
     }
     let root = epoch_at(epochs, Place(0));
-    if root.0 < top {
-        return Place(best);
+    Tops {
+        fresh: won(root, fresh),
+        normal: won(root, last),
     }
-    Place(0)
 }
 
 // "its epoch is the local epoch, its parent is firm, the parent's epoch is at least the bar": firmness last, it costs most.

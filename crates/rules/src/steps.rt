@@ -3,14 +3,13 @@
 use crate::Standing;
 use crate::Top;
 use crate::chains::descends;
-use crate::chains::last_normal;
 use crate::clocks::clock_of;
 use crate::columns::Columns;
 use crate::columns::columns_of;
 use crate::lookups::epoch_at;
 use crate::lookups::lower_at;
 use crate::scans::ballot_of;
-use crate::scans::freshest_of;
+use crate::scans::tops_of;
 use table::Epoch;
 use table::Place;
 use table::State;
@@ -25,7 +24,8 @@ pub fn freshest(s: State) -> Top
     ensures { λ r. ⌜ r ≡ record { place = record { 0 = freshest (s .n) (rows s) }; epoch = record { 0 = freshEpoch s } } ⌝ }
 {
     let c = columns_of(s);
-    let top = freshest_of(&c.parents, &c.epochs, &c.marks, c.size);
+    let tops = tops_of(&c.parents, &c.epochs, &c.marks, c.size);
+    let top = tops.fresh;
     Top {
         place: top,
         epoch: epoch_at(&c.epochs, top),
@@ -52,11 +52,10 @@ pub fn ballot(s: State) -> Place
 pub fn standing(c: Columns, clocks: [Epoch; 32], n: u32, local: Epoch, kept: Place) -> Standing
     ensures { λ r. ⌜ r ≡ standingBy c clocks n (local .0) (kept .0) ⌝ }
 {
-    let top = freshest_of(&c.parents, &c.epochs, &c.marks, c.size);
-    let last = last_normal(&c.parents, &c.epochs, top);
-    let candidate = lower_at(&c.parents, last);
+    let tops = tops_of(&c.parents, &c.epochs, &c.marks, c.size);
+    let candidate = lower_at(&c.parents, tops.normal);
     Standing {
-        fresh: epoch_at(&c.epochs, top),
+        fresh: epoch_at(&c.epochs, tops.fresh),
         clock: clock_of(clocks, n, local),
         candidate: candidate,
         forward: descends(&c.parents, candidate, kept),

@@ -246,6 +246,11 @@ highest-step k ok rank = rw add-one
 pub highest-passes : (k : ℕ) (ok : ℕ → Bool) (rank : ℕ → ℕ) → (highest k ok rank ≡ 0) ⊎ ((highest k ok rank < k) × (ok (highest k ok rank) ≡ true))
 highest-passes k ok rank = highest-highest k ok rank .passes
 
+pub highest-in : (k : ℕ) (ok : ℕ → Bool) (rank : ℕ → ℕ) → 0 < k → highest k ok rank < k
+highest-in k ok rank h =
+    let b = highest k ok rank in
+    ⊎-elim (λ (z : b ≡ 0). omega arith) (λ (z : (b < k) × (ok b ≡ true)). z .0) (highest-passes k ok rank)
+
 pub highest-wins : (k : ℕ) (ok : ℕ → Bool) (rank : ℕ → ℕ) (i : ℕ) → i < k → ok i ≡ true → Wins rank (highest k ok rank) i
 highest-wins k ok rank = highest-highest k ok rank .wins
 

@@ -25,7 +25,7 @@ unfolding pick
 lowest zero ok = 0
 lowest (suc k) ok = let i = lowest k ok in pick (ltb i k) i (pick (ok k) k (suc k))
 
--- of the numbers below k that pass, the one of highest rank, of equals the lowest; 0 where none passes
+-- of the numbers below k that pass, the one of highest rank, of equals the lowest; 0 where none that passes ranks above 0 itself
 unfoldable pub highest : ℕ → (ℕ → Bool) → (ℕ → ℕ) → ℕ
 unfolding pick
 highest zero ok rank = 0

@@ -13,7 +13,7 @@ use Rattle.table.specs.Scan.{pick}
 use Rattle.table.specs.Rows.{size, at, hasVoter, votes, mostNodes}
 use Rattle.table.proofs.Laws.{count-mono}
 use Rattle.pala.specs.Counts.{quorum}
-use Rattle.pala.specs.Rules.{parentOf, line, every, among, first, notarized, firm}
+use Rattle.pala.specs.Rules.{parentOf, line, every, among, notarized, firm}
 use Rattle.pala.proofs.Tests.{and-l, and-r, and-both, or-cases, or-l, or-r}
 use Rattle.pala.proofs.Falls as Falls
 use Rattle.pala.proofs.Falls.{fall-zero, fall-up, every-up, among-zero, among-up}
@@ -96,9 +96,6 @@ firm-parent n t p h e = and-r (notarized n t p) (firm n t (parentOf t p)) (sym (
 pub firm-next : (n : ℕ) (t : List Block) (p : ℕ) → 0 < p → notarized n t p ≡ true → firm n t (parentOf t p) ≡ true → firm n t p ≡ true
 firm-next n t p h a b = firm-up n t p h ∙ and-both (notarized n t p) (firm n t (parentOf t p)) a b
 
-pub firm-on : (n : ℕ) (t : List Block) (p a : ℕ) → among a (line t p) ≡ true → firm n t p ≡ true → firm n t a ≡ true
-firm-on n t p a = down t (λ x. firm n t x ≡ true) (λ x pos. firm-parent n t x pos) p a
-
 -- a block's votes reach the quorum
 pub notarized-votes : (n : ℕ) (t : List Block) (p : ℕ) → 0 < p → notarized n t p ≡ true → quorum n ≤ votes (at t p)
 unfolding notarized
@@ -133,15 +130,3 @@ module _ {t u : List Block} (g : Grown t u) where
           (grown-notarized n p h (firm-own n t p pos e))
           (subst (λ q. firm n u q ≡ true) (sym (grown-parent g p h))
           (ih (omega (arith, parent-below t p pos)) (firm-parent n t p pos e)))
-
--- the first that passes is on the list and passes, or it is 0
-pub first-found : (ok : ℕ → Bool) (l : List ℕ) → (first ok l ≡ 0) ⊎ ((ok (first ok l) ≡ true) × (among (first ok l) l ≡ true))
-unfolding first pick among
-first-found ok [] = inl refl
-first-found ok (x ∷ l) = go (ok x) refl (first-found ok l)
-  where
-    go : (b : Bool) → ok x ≡ b → (first ok l ≡ 0) ⊎ ((ok (first ok l) ≡ true) × (among (first ok l) l ≡ true))
-        → (pick b x (first ok l) ≡ 0) ⊎ ((ok (pick b x (first ok l)) ≡ true) × (among (pick b x (first ok l)) (x ∷ l) ≡ true))
-    go true e r = inr (e, or-l (eqb x x) (among x l) (eq-eqb x x refl))
-    go false e (inl z) = inl z
-    go false e (inr (k, a)) = inr (k, or-r (eqb x (first ok l)) (among (first ok l) l) a)

@@ -1,19 +1,20 @@
 -- The freshest block, and what may be kept: the genesis, or the parent of a firm normal block, as the candidate is. Assumes nothing.
 use Prim.Native.Nat.{ℕ, _+_, _≤_, _<_}
-use mathlib.Core.Bool.{true}
+use mathlib.Core.Bool.{Bool, true, _&&_}
 use mathlib.Core.List.{List}
 use mathlib.Core.Logic.{_⊎_, inl, inr, ⊎-elim}
 use mathlib.Core.Path.{_≡_, refl, sym, ap, _∙_}
 use native.Mathlib.Decide.{ℕ-discrete}
 use native.Mathlib.Omega.{arith}
-use borrow.Author.Tests.{eqb-true}
+use borrow.Author.Tests.{eqb-true, eq-eqb}
 use Rattle.table.specs.declared.Block.{Block}
 use Rattle.table.specs.Rows.{size}
-use Rattle.pala.specs.Rules.{epochAt, parentOf, line, among, first, firm, freshest, normal, candidate}
+use Rattle.pala.specs.Rules.{epochAt, parentOf, firm, freshest, normal, freshestNormal, candidate}
 use Rattle.table.proofs.Laws.{highest-passes, highest-wins}
+use Rattle.pala.proofs.Tests.{and-l, and-r, and-both}
 use Rattle.pala.proofs.Grown.{Grown, grown-parent, grown-epoch}
 use Rattle.pala.proofs.Places.{parent-below, parent-zero, freshest-in}
-use Rattle.pala.proofs.Demand.Ancestors.{firm-zero, firm-on, on-lower, first-found, grown-firm}
+use Rattle.pala.proofs.Demand.Ancestors.{firm-zero, grown-firm}
 
 -- "Freshest: the firm block of highest epoch"
 module _ (n : ℕ) (t : List Block) where
@@ -74,24 +75,56 @@ pub kept-in : {t : List Block} {n c : ℕ} → 0 < size t → Kept n t c → c <
 kept-in h (inl e) = rw e h
 kept-in {t} h (inr f) = omega (arith, f .within, f .parent, parent-below t (f .child) (f .above))
 
--- "Candidate: the parent of the last normal block on the freshest chain; genesis if there is none"
-pub candidate-kept : (n : ℕ) (t : List Block) → 0 < size t → Kept n t (candidate n t)
-unfolding candidate normal
-candidate-kept n t h = go (first (λ p. normal t p) (line t (freshest n t))) (first-found (λ p. normal t p) (line t (freshest n t)))
-  where
-    go : (y : ℕ) → (y ≡ 0) ⊎ ((normal t y ≡ true) × (among y (line t (freshest n t)) ≡ true)) → Kept n t (parentOf t y)
-    go y (inl z) = inl (ap (parentOf t) z ∙ parent-zero t)
-    go y (inr (o, a)) =
-        elim (ℕ-discrete y 0) [
-          | yes z ↦ inl (ap (parentOf t) z ∙ parent-zero t)
-          | no z ↦
-              inr
-              (record {
-                child = y;
-                above = omega arith;
-                within = omega (arith, on-lower t (freshest n t) y a, freshest-in n t h);
-                firmly = firm-on n t (freshest n t) y a (freshest-firm n t);
-                next = eqb-true (epochAt t y) (epochAt t (parentOf t y) + 1) o;
-                parent = refl;
-              })
-        ]
+-- 02, M-104: "the parent of the firm normal block of highest epoch .."; no other parent of a firm normal block is later
+module _ (n : ℕ) (t : List Block) where
+  -- is a block firm and normal
+  abbrev both : ℕ → Bool
+  both p = firm n t p && normal t p
+
+  top : ℕ
+  top = freshestNormal n t
+
+  found : (top ≡ 0) ⊎ ((top < size t) × (both top ≡ true))
+  unfolding top freshestNormal
+  found = highest-passes (size t) both (λ p. epochAt t p)
+
+  normal-next : (p : ℕ) → both p ≡ true → epochAt t p ≡ epochAt t (parentOf t p) + 1
+  unfolding normal
+  normal-next p e = eqb-true (epochAt t p) (epochAt t (parentOf t p) + 1) (and-r (firm n t p) (normal t p) e)
+
+  normal-best : (p : ℕ) → p < size t → firm n t p ≡ true → epochAt t p ≡ epochAt t (parentOf t p) + 1 → epochAt t p ≤ epochAt t top
+  unfolding top freshestNormal normal
+  normal-best p h f e =
+      let o : both p ≡ true = and-both (firm n t p) (normal t p) f (eq-eqb (epochAt t p) (epochAt t (parentOf t p) + 1) e) in
+      ⊎-elim (λ l. omega arith) (λ l. omega arith) (highest-wins (size t) both (λ p. epochAt t p) p h o)
+
+  candidate-next : epochAt t top ≤ epochAt t (candidate n t) + 1
+  unfolding candidate top
+  candidate-next =
+      ⊎-elim (λ z. omega (arith, ap (λ p. epochAt t (parentOf t p)) z ∙ ap (epochAt t) (parent-zero t), ap (epochAt t) z))
+      (λ w. omega (arith, normal-next top (w .1))) found
+
+  pub candidate-latest : {c : ℕ} → FinalBy n t c → epochAt t c ≤ epochAt t (candidate n t)
+  candidate-latest f =
+      omega (arith, normal-best (f .child) (f .within) (f .firmly) (f .next), candidate-next, f .next, ap (epochAt t) (f .parent))
+
+  pub candidate-kept : Kept n t (candidate n t)
+  unfolding candidate top
+  candidate-kept = go found
+    where
+      go : (top ≡ 0) ⊎ ((top < size t) × (both top ≡ true)) → Kept n t (parentOf t top)
+      go (inl z) = inl (ap (parentOf t) z ∙ parent-zero t)
+      go (inr (h, o)) =
+          elim (ℕ-discrete top 0) [
+            | yes z ↦ inl (ap (parentOf t) z ∙ parent-zero t)
+            | no z ↦
+                inr
+                (record {
+                  child = top;
+                  above = omega arith;
+                  within = h;
+                  firmly = and-l (firm n t top) (normal t top) o;
+                  next = normal-next top o;
+                  parent = refl;
+                })
+          ]

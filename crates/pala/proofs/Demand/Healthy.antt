@@ -50,24 +50,21 @@ module _ {s : State} (k : Proper s) where
   pub did-grown : {r : List ℕ} {u : State} → Did room s r u → Grown (rows s) (rows u)
   did-grown = did-grows s (k .sized .blocks) (k .shaped)
 
-  pub did-some : {r : List ℕ} {u : State} → Did room s r u → 0 < size (rows u)
-  did-some d = omega (arith, some-rows k, did-grown d .longer)
-
 -- so what is kept may still be kept
 pub did-kept : {s : State} → Healthy s → {r : List ℕ} {u : State} → Did room s r u → KeptBy u
 did-kept h {u = u} d =
     subst₂ (λ n c. Kept n (rows u) c) (sym (did-same d .0)) (sym (did-same d .3)) (grown-kept (did-grown (h .proper) d) (h .kept))
 
 -- "it is kept instead": the candidate may be kept
-settled-kept : (u : State) → 0 < size (rows u) → KeptBy u → KeptBy (settled u)
+settled-kept : (u : State) → KeptBy u → KeptBy (settled u)
 unfolding settled rows newKept
-settled-kept u some k =
+settled-kept u k =
     pick-case (Kept (u .n) (rows u)) (forward u) (candidate (u .n) (rows u)) (u .kept .0)
-    (λ _. candidate-kept (u .n) (rows u) some) (λ _. k)
+    (λ _. candidate-kept (u .n) (rows u)) (λ _. k)
 
 pub step-healthy : (s : State) (r out : List ℕ) → Healthy s → Healthy (step s r out .state)
 step-healthy s r out h = record { proper = call-keeps s r out (h .proper); kept = go (call-did s r out (h .proper)) }
   where
     go : Stepped room s r out (step s r out) → KeptBy (step s r out .state)
     go (refused k e) = subst KeptBy (sym e) (h .kept)
-    go (took k p d e) = subst KeptBy (sym e) (settled-kept (effect s r) (did-some (h .proper) d) (did-kept h d))
+    go (took k p d e) = subst KeptBy (sym e) (settled-kept (effect s r) (did-kept h d))

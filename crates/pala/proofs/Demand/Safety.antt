@@ -17,7 +17,7 @@ use Rattle.pala.proofs.Tests.{or-l, or-r}
 use Rattle.pala.proofs.Grown.{rows-settled}
 use Rattle.pala.proofs.Demand.Chains.{Goes, On, in-line, chains-agree}
 use Rattle.pala.proofs.Demand.Freshest.{Kept, kept-in, candidate-kept}
-use Rattle.pala.proofs.Demand.Healthy.{Healthy, KeptBy, did-same, did-some, did-kept}
+use Rattle.pala.proofs.Demand.Healthy.{Healthy, KeptBy, did-same, did-kept}
 use Rattle.pala.proofs.Demand.Runs.{effectAt, Next, stayed, moved, next, starts}
 use Rattle.pala.proofs.Demand.Names.{chain-of, kept-of, on-place}
 use Rattle.pala.proofs.Finals.{namesTo}
@@ -111,11 +111,11 @@ module _ (n : ℕ) (honest : ℕ → Bool) (run : Run) (pr : Premises n honest r
           (on-place epoch parent (faithful n honest run pr m i hi) c k (within wc) (within wk) o)
 
   -- the candidate of an honest table and the block kept before are in line
-  candidate-in-line : (m i : ℕ) → Honest n honest i → (u : State) → 0 < size (rows u) → KeptBy u → u .n ≡ n → tableAt n run m i ≡ rows u
+  candidate-in-line : (m i : ℕ) → Honest n honest i → (u : State) → KeptBy u → u .n ≡ n → tableAt n run m i ≡ rows u
       → (descends (rows u) (candidate (u .n) (rows u)) (u .kept .0) || descends (rows u) (u .kept .0) (candidate (u .n) (rows u))) ≡ true
-  candidate-in-line m i hi u some w en et =
+  candidate-in-line m i hi u w en et =
       subst (λ t. Kept n t c → Kept n t k → (descends t c k || descends t k c) ≡ true) et (table-in-line m i hi c k)
-      (subst (λ x. Kept x (rows u) c) en (candidate-kept (u .n) (rows u) some))
+      (subst (λ x. Kept x (rows u) c) en (candidate-kept (u .n) (rows u)))
       (subst (λ x. Kept x (rows u) k) en w)
     where
       c : ℕ
@@ -140,7 +140,7 @@ module _ (n : ℕ) (honest : ℕ → Bool) (run : Run) (pr : Premises n honest r
       go w (moved v) =
           ap (λ (x : State). x .torn) (v .later)
           ∙ settled-whole u (did-same (v .did) .2 ∙ w)
-          (candidate-in-line (suc m) i hi u (did-some (h .proper) (v .did)) (did-kept h (v .did))
+          (candidate-in-line (suc m) i hi u (did-kept h (v .did))
           (did-same (v .did) .0 ∙ nodes-same n honest run pr m i hi) (ap rows (v .later) ∙ rows-settled u))
 
 pub safe : Safe

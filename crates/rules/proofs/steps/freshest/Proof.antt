@@ -14,17 +14,17 @@ held c = search length-unmap
 columns-of-requires : tie.Need-columns-of-requires
 columns-of-requires c κs = search needs
 
-freshest-of-requires : tie.Need-freshest-of-requires
-freshest-of-requires c κs = search needs
+tops-of-requires : tie.Need-tops-of-requires
+tops-of-requires c κs = search needs
 
 epoch-at-requires : tie.Need-epoch-at-requires
 epoch-at-requires c κs = search needs
 
 returns : tie.Need-returns
 returns c =
-    let f = c .before .before .before in
+    let f = c .before .before .before .before in
     let z = f .before .before .before .before .before in
-    top-shown (z .before .args .s) (held (z .before)) _ (z .columns-of .ensures) _ _ (f .freshest-of .ensures) (c .epoch-at .ensures)
+    top-shown (z .before .args .s) (held (z .before)) _ (z .columns-of .ensures) _ _ (f .tops-of .ensures) (c .epoch-at .ensures)
 
 pub freshest-spec : {M : Type 1} → statement M
-freshest-spec = tie.close (tie.spec columns-of-requires freshest-of-requires epoch-at-requires returns)
+freshest-spec = tie.close (tie.spec columns-of-requires tops-of-requires epoch-at-requires returns)

@@ -4,11 +4,8 @@ use Rattle.rules.proofs.Shown.{standing-made}
 use Rattle.rules.proofs.steps.standing.Statement.{statement}
 use Rattle.rules.proofs.steps.standing.Tie as tie
 
-freshest-of-requires : tie.Need-freshest-of-requires
-freshest-of-requires c κs = search needs
-
-last-normal-requires : tie.Need-last-normal-requires
-last-normal-requires c κs = search needs
+tops-of-requires : tie.Need-tops-of-requires
+tops-of-requires c κs = search needs
 
 lower-at-requires : tie.Need-lower-at-requires
 lower-at-requires c κs = search needs
@@ -31,16 +28,14 @@ returns c =
     let k = d .before .before .before in
     let e = k .before in
     let l = e .before .before .before in
-    let n = l .before .before .before in
-    let f = n .before .before .before .before in
-    standing-made _ _ _ _ _ _ _ _ _ _ _ _ (f .freshest-of .ensures) (n .last-normal .ensures) (l .lower-at .ensures) (e .epoch-at .ensures) (k .clock-of .ensures) (d .descends .ensures) (c .descends2 .ensures)
+    let f = l .before .before .before in
+    standing-made _ _ _ _ _ _ _ _ _ _ _ (f .tops-of .ensures) (l .lower-at .ensures) (e .epoch-at .ensures) (k .clock-of .ensures) (d .descends .ensures) (c .descends2 .ensures)
 
 pub standing-spec : {M : Type 1} → statement M
 standing-spec =
     tie.close
     (tie.spec
-    freshest-of-requires
-    last-normal-requires
+    tops-of-requires
     lower-at-requires
     epoch-at-requires
     clock-of-requires
