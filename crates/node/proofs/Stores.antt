@@ -4,8 +4,6 @@ use mathlib.Core.List.{List}
 use mathlib.Core.Path.{_≡_, sym, ap, _∙_}
 use native.Mathlib.Numerals.{add-one}
 use native.Mathlib.Omega.{arith}
-use borrow.Author.Tests.{le-leb}
-use lib.Dec.{leb}
 use lib.ListN.{length, getD, set}
 use lib.Seq.{set-getD}
 use Rattle.table.specs.declared.Block.{Block}
@@ -13,9 +11,8 @@ use Rattle.table.specs.declared.Epoch.{Epoch}
 use Rattle.table.specs.declared.NodeNo.{NodeNo}
 use Rattle.table.specs.declared.Place.{Place}
 use Rattle.table.specs.declared.State.{State}
-use Rattle.table.specs.Rows.{capacity, mostNodes, rows, at, withVoter}
-use Rattle.table.specs.Scan.{pick}
-use Rattle.table.proofs.Laws.{at-rows, pick-yes}
+use Rattle.table.specs.Rows.{capacity, mostNodes, rowOf, rows, at, withVoter}
+use Rattle.table.proofs.Laws.{at-rows, row-in}
 use Rattle.pala.specs.Effects.{put, withBlock, withVote, withClock}
 use Rattle.pala.proofs.Grown.{laid-set}
 use Rattle.node.specs.declared.effects.Effect.{Effect}
@@ -36,9 +33,9 @@ module _ (s : State) (l : length (s .blocks) ≡ suc capacity) where
       ∙ ap (λ (x : List Block). put s x (s .count) (s .clocks) voted (s .proposed .0)) (sym (laid-set (s .blocks) p (withVoter (at (rows s) p) i) inside))
 
   -- the row of a place that is held
-  pub row-held : (p k : ℕ) (d : Block) → k ≡ pick (leb p capacity) p 0 → s .count ≤ capacity → p ≤ s .count → getD (s .blocks) k d ≡ at (rows s) p
+  pub row-held : (p k : ℕ) (d : Block) → k ≡ rowOf p → s .count ≤ capacity → p ≤ s .count → getD (s .blocks) k d ≡ at (rows s) p
   row-held p k d e h m =
-      ap (λ (x : ℕ). getD (s .blocks) x d) (e ∙ pick-yes (leb p capacity) p 0 (le-leb p capacity (omega arith)))
+      ap (λ (x : ℕ). getD (s .blocks) x d) (e ∙ row-in p (omega arith))
       ∙ sym (at-rows s p d m (omega arith))
 
 -- what stands is written as it stands

@@ -4,16 +4,14 @@ use crate::effects::effect_of;
 use record::Fields;
 use rules::columns::columns_of;
 use rules::steps::standing;
-use table::CAPACITY;
 use table::Epoch;
 use table::Place;
 use table::State;
-ghost use Prim.Native.Nat.{ℕ, _≤_, max};
+use table::rows::row_of;
+ghost use Prim.Native.Nat.{ℕ, max};
 ghost use mathlib.Core.Bool.{true};
 ghost use mathlib.Core.List.{List};
-ghost use lib.Dec.{leb};
 ghost use mathlib.Core.Path.{_≡_};
-ghost use Rattle.table.specs.Rows.{capacity};
 ghost use Rattle.table.specs.Scan.{pick};
 ghost use Rattle.pala.specs.Effects.{effect};
 ghost use Rattle.pala.specs.Shape.{wellShaped};
@@ -48,17 +46,6 @@ fn place_by(test: bool, a: Place, b: Place) -> Place
         return a;
     }
     b
-}
-
-// The row that a place names; the genesis's for one past the table.
-fn row_of(place: Place) -> usize
-    ensures { λ r. ⌜ (r ≡ pick (leb (place .0) capacity) (place .0) 0) × (r ≤ capacity) ⌝ }
-{
-    let k = place.0;
-    if CAPACITY < k {
-        return 0;
-    }
-    k as usize
 }
 
 // The state after the direct effect of a record that is taken, and the five steps. Only here are the rows copied, and once.

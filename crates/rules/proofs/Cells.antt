@@ -11,7 +11,7 @@ use lib.Dec.{ltb}
 use lib.ListN.{length, getD, set, replicate, length-set, length-replicate, getD-replicate}
 use lib.Seq.{ext-getD, getD-set-same, getD-set-other}
 use Rattle.table.specs.Scan.{pick}
-use Rattle.table.proofs.Laws.{same-test, pick-yes, pick-no, pick-case}
+use Rattle.table.proofs.Laws.{same-test, pick-yes, pick-no, pick-case, row-in, row-past}
 use Rattle.rules.specs.Columns.{places, upTo, cell}
 
 -- ---- columns
@@ -36,11 +36,11 @@ module _ {A : Type 0} where
 
   pub cell-in : (d : A) (col : List A) (p : ℕ) → p < places → getD col p d ≡ cell d col p
   unfolding cell
-  cell-in d col p h = ap (λ (i : ℕ). getD col i d) (sym (pick-yes (ltb p places) p 0 (lt-ltb p places h)))
+  cell-in d col p h = ap (λ (i : ℕ). getD col i d) (sym (row-in p (omega arith)))
 
   pub cell-past : (d : A) (col : List A) (p : ℕ) → places ≤ p → getD col 0 d ≡ cell d col p
   unfolding cell
-  cell-past d col p h = ap (λ (i : ℕ). getD col i d) (sym (pick-no (ltb p places) p 0 (le-ltb p places h)))
+  cell-past d col p h = ap (λ (i : ℕ). getD col i d) (sym (row-past p h))
 
   -- a column shows f at every place, where f is the same past the column as at the root
   pub cell-upTo : (d : A) (f : ℕ → A) → ((p : ℕ) → places ≤ p → f p ≡ f 0) → (p : ℕ) → cell d (upTo places f) p ≡ f p

@@ -1,5 +1,5 @@
 -- The columns of a state show what the rules read of its table. Assumes nothing.
-use Prim.Native.Nat.{ℕ, _+_, _≤_, _<_, zero-le, max}
+use Prim.Native.Nat.{ℕ, _+_, _≤_, _<_, zero-le, max, min}
 use mathlib.Core.Bool.{Bool, false}
 use mathlib.Core.List.{List}
 use mathlib.Core.Path.{_≡_, sym, ap, fun-ext, _∙_}
@@ -73,6 +73,12 @@ module _ (s : State) (held : length (s .blocks) ≡ places) where
       ∙ ap (λ (f : ℕ → ℕ). R (size t) up f (markAt (columns s .marks))) (fun-ext (column-shows (λ b. b .epoch .0) 0))
       ∙ ap (λ (f : ℕ → Bool). R (size t) up (epochAt t) f) (fun-ext (column-shows m false))
 
+  -- and so is one over no more places than the columns have: a table has no more
+  shown-within : {A : Type 0} (R : ℕ → (ℕ → ℕ) → (ℕ → ℕ) → (ℕ → Bool) → A) (c : Columns) → c ≡ columns s → R (min (c .size) places) (numberAt (c .parents)) (numberAt (c .epochs)) (markAt (c .marks)) ≡ R (size (rows s)) (upOf (rows s)) (epochAt (rows s)) (markOf (s .n) (rows s))
+  shown-within R c e =
+      let fits : min (size (rows s)) places ≡ size (rows s) = omega (arith, size-le) in
+      shown (λ k. R (min k places)) c e ∙ ap (λ (k : ℕ). R k (upOf (rows s)) (epochAt (rows s)) (markOf (s .n) (rows s))) fits
+
   -- the columns are made once the last row is in them
   pub columns-made : (parents epochs : List ℕ) (marks : List Bool) (k end : ℕ) → k ≡ end → end ≡ size (rows s) → parents ≡ made (λ p. at (rows s) p .parent .0) k → epochs ≡ made (λ p. at (rows s) p .epoch .0) k → marks ≡ made (λ p. leb (quorum (s .n)) (votes (at (rows s) p))) k → record { parents = parents; epochs = epochs; marks = marks; size = end } ≡ columns s
   unfolding columns upOf epochAt markOf
@@ -86,9 +92,9 @@ module _ (s : State) (held : length (s .blocks) ≡ places) where
       ∙ ap (λ (x : ℕ). record { parents = columns s .parents; epochs = columns s .epochs; marks = columns s .marks; size = x }) e
 
   module _ (c : Columns) (e : c ≡ columns s) where
-    pub freshest-shown : freshestBy (c .size) (numberAt (c .parents)) (numberAt (c .epochs)) (markAt (c .marks)) ≡ freshest (s .n) (rows s)
+    pub freshest-shown : freshestBy (min (c .size) places) (numberAt (c .parents)) (numberAt (c .epochs)) (markAt (c .marks)) ≡ freshest (s .n) (rows s)
     unfolding freshestBy freshest firmBy firm notarized line upOf markOf
-    freshest-shown = shown (λ k up epoch mark. freshestBy k up epoch mark) c e
+    freshest-shown = shown-within (λ k up epoch mark. freshestBy k up epoch mark) c e
 
     pub ballot-shown : (local bar voted : ℕ) → lowest (c .size) (votableBy (numberAt (c .parents)) (numberAt (c .epochs)) (markAt (c .marks)) local bar voted) ≡ ballot (s .n) (rows s) local bar voted
     unfolding votableBy ballot votable firmBy firm notarized line parentOf upOf markOf
@@ -100,7 +106,7 @@ module _ (s : State) (held : length (s .blocks) ≡ places) where
     fresh-shown = shown (λ _ _ epoch _. epoch (freshest (s .n) (rows s))) c e
 
     pub top-shown : (tops : Tops) (fresh : Epoch)
-        → tops ≡ topsBy (c .size) (numberAt (c .parents)) (numberAt (c .epochs)) (markAt (c .marks))
+        → tops ≡ topsBy (min (c .size) places) (numberAt (c .parents)) (numberAt (c .epochs)) (markAt (c .marks))
         → fresh ≡ record { 0 = numberAt (c .epochs) (tops .fresh .0) }
         → _≡_ {A = Top} (record { place = tops .fresh; epoch = fresh }) (record { place = record { 0 = freshest (s .n) (rows s) }; epoch = record { 0 = freshEpoch s } })
     unfolding topsBy
@@ -114,7 +120,7 @@ module _ (s : State) (held : length (s .blocks) ≡ places) where
     pub standing-shown : standingBy c (s .clocks) (s .n) (s .local .0) (s .kept .0) ≡ standing s
     unfolding standingBy standing topsBy freshEpoch forward descends line candidate parentOf normal freshest freshestNormal freshestBy freshestNormalBy firmBy firm notarized normalBy upOf markOf
     standing-shown =
-        shown
+        shown-within
         (λ k up epoch mark.
         let next : ℕ = lower up (freshestNormalBy k up epoch mark) in
         record {
@@ -136,10 +142,10 @@ module _ (c : Columns) (clocks : List Epoch) (n local kept : ℕ) where
   epoch = numberAt (c .epochs)
 
   tops : Tops
-  tops = topsBy (c .size) up epoch (markAt (c .marks))
+  tops = topsBy (min (c .size) places) up epoch (markAt (c .marks))
 
   pub standing-made : (found : Tops) (cand : Place) (fresh clock : Epoch) (fwd back : Bool)
-      → found ≡ topsBy (c .size) (numberAt (c .parents)) (numberAt (c .epochs)) (markAt (c .marks))
+      → found ≡ topsBy (min (c .size) places) (numberAt (c .parents)) (numberAt (c .epochs)) (markAt (c .marks))
       → cand ≡ record { 0 = lower (numberAt (c .parents)) (found .normal .0) }
       → fresh ≡ record { 0 = numberAt (c .epochs) (found .fresh .0) }
       → clock ≡ record { 0 = max local (agreed n clocks) }

@@ -40,12 +40,12 @@ module _ (up epoch : ℕ → ℕ) (mark : ℕ → Bool) where
     pub lately : freshestNormalBy size up epoch mark ≡ against both epoch k last
     pub order : last .epoch .0 ≤ fresh .epoch .0
 
-  pub scanned-start : (size : ℕ) → Scanned size size none none
+  pub scanned-start : (size k : ℕ) → k ≡ size → Scanned size k none none
   unfolding freshestBy freshestNormalBy
-  scanned-start size =
+  scanned-start size k e =
       record {
-        freshly = joined-start firmly epoch size 0;
-        lately = joined-start both epoch size 0;
+        freshly = joined-start firmly epoch size 0 ∙ ap (λ (j : ℕ). against firmly epoch j none) (sym e);
+        lately = joined-start both epoch size 0 ∙ ap (λ (j : ℕ). against both epoch j none) (sym e);
         order = omega arith;
       }
 

@@ -7,8 +7,8 @@ use lib.Dec.{eqb, ltb, leb}
 use lib.ListN.{getD}
 use Rattle.table.specs.declared.Block.{Block}
 use Rattle.table.specs.declared.State.{State}
-use Rattle.table.specs.Scan.{pick, highest}
-use Rattle.table.specs.Rows.{capacity, rows, size, at, votes}
+use Rattle.table.specs.Scan.{highest}
+use Rattle.table.specs.Rows.{capacity, rowOf, rows, size, at, votes}
 use Rattle.pala.specs.Counts.{quorum}
 use Rattle.pala.specs.Rules.{epochAt, lower, fall, every}
 use Rattle.rules.specs.declared.columns.Columns.{Columns}
@@ -24,8 +24,8 @@ upTo (suc k) f = f 0 ∷ upTo k (λ i. f (suc i))
 
 -- what stands in a column at a place; past the column, the root's
 unfoldable pub cell {ℓ} : {A : Type ℓ} → A → List A → ℕ → A
-unfolding pick
-cell d col p = getD col (pick (ltb p places) p 0) d
+unfolding rowOf
+cell d col p = getD col (rowOf p) d
 
 abbrev pub numberAt : List ℕ → ℕ → ℕ
 numberAt col p = cell 0 col p

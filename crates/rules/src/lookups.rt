@@ -1,8 +1,8 @@
 // What stands in a column at a place.
 
-use table::CAPACITY;
 use table::Epoch;
 use table::Place;
+use table::rows::row_of;
 ghost use mathlib.Core.Path.{_≡_};
 ghost use Rattle.pala.specs.Rules.{lower};
 ghost use Rattle.rules.specs.Columns.{markAt, numberAt};
@@ -11,11 +11,7 @@ ghost use Rattle.rules.specs.Columns.{markAt, numberAt};
 fn number_at(col: &[u32; 65], p: Place) -> u32
     ensures { λ r. ⌜ r ≡ numberAt (now (col .entry)) (p .0) ⌝ }
 {
-    let k = p.0;
-    if CAPACITY < k {
-        return col[0];
-    }
-    let i = k as usize;
+    let i = row_of(p);
     col[i]
 }
 
@@ -23,11 +19,7 @@ fn number_at(col: &[u32; 65], p: Place) -> u32
 pub fn mark_at(marks: &[bool; 65], p: Place) -> bool
     ensures { λ r. ⌜ r ≡ markAt (now (marks .entry)) (p .0) ⌝ }
 {
-    let k = p.0;
-    if CAPACITY < k {
-        return marks[0];
-    }
-    let i = k as usize;
+    let i = row_of(p);
     marks[i]
 }
 

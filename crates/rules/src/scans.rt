@@ -5,13 +5,18 @@ use crate::chains::firm;
 use crate::chains::normal;
 use crate::lookups::epoch_at;
 use crate::lookups::lower_at;
+use table::CAPACITY;
 use table::Epoch;
 use table::Place;
+ghost use Prim.Native.Nat.{min};
 ghost use mathlib.Core.Path.{_≡_};
 ghost use lib.Dec.{ltb};
 ghost use Rattle.table.specs.Scan.{lowest, pick};
-ghost use Rattle.rules.specs.Columns.{markAt, numberAt, openBy, votableBy};
+ghost use Rattle.rules.specs.Columns.{markAt, numberAt, openBy, places, votableBy};
 ghost use Rattle.rules.specs.Standing.{topsBy};
+
+// "place 0" and "places 1 to 64"
+const PLACES: u32 = CAPACITY + 1;
 
 // The freshest block, and M-104's "firm normal block of highest epoch".
 pub struct Tops {
@@ -39,6 +44,16 @@ fn won(root: Epoch, best: Top) -> Place
     Place(0)
 }
 
+// So many places of a column as it has, or as are asked for.
+fn within(size: u32) -> u32
+    ensures { λ r. ⌜ r ≡ min size places ⌝ }
+{
+    if PLACES < size {
+        return PLACES;
+    }
+    size
+}
+
 // "of highest epoch; of equals the lowest place": downward, once for both, and only a block that could win is asked for firmness.
 pub fn tops_of<'a>(
     parents: &'a [u32; 65],
@@ -46,14 +61,14 @@ pub fn tops_of<'a>(
     marks: &'a [bool; 65],
     size: u32,
 ) -> Tops
-    ensures { λ r. ⌜ r ≡ topsBy size (numberAt (now (parents .entry))) (numberAt (now (epochs .entry))) (markAt (now (marks .entry))) ⌝ }
+    ensures { λ r. ⌜ r ≡ topsBy (min size places) (numberAt (now (parents .entry))) (numberAt (now (epochs .entry))) (markAt (now (marks .entry))) ⌝ }
 {
     let mut fresh = Top {
         place: Place(0),
         epoch: Epoch(0),
     };
     let mut last = fresh;
-    let mut k = size;
+    let mut k = within(size);
     while 1 < k {
         k -= 1;
         let here = Top {

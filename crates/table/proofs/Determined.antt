@@ -5,6 +5,7 @@ use Rattle.table.proofs.names.same_name.Reads as same-name
 use Rattle.table.proofs.names.zero_name.Reads as zero-name
 use Rattle.table.proofs.rows.at.Reads as at
 use Rattle.table.proofs.rows.find.Reads as find
+use Rattle.table.proofs.rows.row_of.Reads as row-of
 use Rattle.table.proofs.rows.size_of.Reads as size-of
 use Rattle.table.proofs.voters.has_voter.Reads as has-voter
 use Rattle.table.proofs.voters.with_voter.Reads as with-voter
@@ -20,6 +21,9 @@ zero-name-one κs a r q s t = one-outcome
 
 at-one : (κs : _) (a : _) (r q : _) (s t : _) → at.Post κs a r s → at.Post κs a q t → r ≡ q
 at-one κs a r q s t = one-outcome
+
+row-of-one : (κs : _) (a : _) (r q : _) (s t : _) → row-of.Post κs a r s → row-of.Post κs a q t → r ≡ q
+row-of-one κs a r q s t = one-outcome
 
 size-of-one : (κs : _) (a : _) (r q : _) (s t : _) → size-of.Post κs a r s → size-of.Post κs a q t → r ≡ q
 size-of-one κs a r q s t = one-outcome

@@ -10,13 +10,13 @@ use native.Mathlib.Nat.{le-refl, not-suc-le-zero, le-of-suc-le-suc}
 use native.Mathlib.Numerals.{add-one}
 use native.Mathlib.Omega.{arith}
 use borrow.Author.Count.{below-more}
-use borrow.Author.Tests.{ltb-true, ltb-false, eqb-true, eq-eqb}
-use lib.Dec.{ltb, eqb}
+use borrow.Author.Tests.{ltb-true, ltb-false, le-leb, lt-leb, eqb-true, eq-eqb}
+use lib.Dec.{ltb, leb, eqb}
 use lib.ListN.{length, getD, replicate, length-take, length-replicate, length-map, List·getD-eq-default}
 use lib.Seq.{ext-getD, getD-take, set-out}
 use Rattle.table.specs.Scan.{pick, allBelow, count, lowest, highest, greatest}
 use Rattle.table.specs.Bytes.{same, zeros}
-use Rattle.table.specs.Rows.{rows, at, size, blank, find, hasVoter, withVoter, votes, mostNodes}
+use Rattle.table.specs.Rows.{capacity, rowOf, rows, at, size, blank, find, hasVoter, withVoter, votes, mostNodes}
 use Rattle.table.specs.declared.Block.{Block}
 use Rattle.table.specs.declared.rows.Found.{Found}
 use Rattle.table.specs.declared.State.{State}
@@ -371,6 +371,18 @@ pub at-out : (t : List Block) (p : ℕ) → size t ≤ p → at t p ≡ at t 0
 unfolding at
 at-out [] p h = refl
 at-out (x ∷ xs) p h = List·getD-eq-default (x ∷ xs) x h
+
+-- the row of a place within the capacity, and past it
+pub row-in : (p : ℕ) → p ≤ capacity → rowOf p ≡ p
+unfolding rowOf
+row-in p h = pick-yes (leb p capacity) p 0 (le-leb p capacity h)
+
+pub row-past : (p : ℕ) → capacity < p → rowOf p ≡ 0
+unfolding rowOf
+row-past p h = pick-no (leb p capacity) p 0 (lt-leb p capacity h)
+
+pub row-low : (p k : ℕ) → k ≡ rowOf p → k ≤ capacity
+row-low p k e = elim (decLe p capacity) [ yes h ↦ omega (arith, row-in p h) | no h ↦ omega (arith, row-past p (omega arith)) ]
 
 pub size-rows : (s : State) → size (rows s) ≡ min (suc (s .count)) (length (s .blocks))
 unfolding rows

@@ -2,9 +2,10 @@
 use Prim.Native.Nat.{ℕ, suc}
 use mathlib.Core.Bool.{Bool, true, false}
 use mathlib.Core.List.{List}
+use lib.Dec.{leb}
 use lib.ListN.{length, getD, take, set, replicate}
 use Rattle.table.specs.Bytes.{same}
-use Rattle.table.specs.Scan.{count, lowest}
+use Rattle.table.specs.Scan.{pick, count, lowest}
 use Rattle.table.specs.declared.Block.{Block}
 use Rattle.table.specs.declared.State.{State}
 
@@ -33,6 +34,11 @@ blank =
       epoch = record { 0 = 0 };
       parent = record { 0 = 0 };
     }
+
+-- the row that a place names; past the capacity, the root's
+unfoldable pub rowOf : ℕ → ℕ
+unfolding pick
+rowOf p = pick (leb p capacity) p 0
 
 -- a state's table: the root at place 0, then the blocks held "at places 1 to 64, in order of arrival"
 unfoldable pub rows : State → List Block

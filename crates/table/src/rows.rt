@@ -7,7 +7,7 @@ use crate::State;
 use crate::names::same_name;
 ghost use mathlib.Core.Path.{_≡_};
 ghost use Prim.Native.Nat.{suc, min};
-ghost use Rattle.table.specs.Rows.{at, capacity, find, rows};
+ghost use Rattle.table.specs.Rows.{at, capacity, find, rowOf, rows};
 
 // Where a name was found, and the block that has it.
 pub struct Found {
@@ -29,6 +29,17 @@ pub fn at(s: State, p: Place) -> Block
     }
     let i = k as usize;
     s.blocks[i]
+}
+
+// The row that a place names; past the capacity, the root's.
+pub fn row_of(p: Place) -> usize
+    ensures { λ r. ⌜ r ≡ rowOf (p .0) ⌝ }
+{
+    let k = p.0;
+    if CAPACITY < k {
+        return 0;
+    }
+    k as usize
 }
 
 // How many rows a table of so many blocks has; a count above the capacity, which no state of 01 has, gives no more.

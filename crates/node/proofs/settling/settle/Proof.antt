@@ -5,7 +5,7 @@ use native.Mathlib.Omega.{arith}
 use borrow.Author.Needs.{needs}
 use lib.ListN.{length}
 use Rattle.table.specs.Rows.{capacity}
-use Rattle.table.proofs.Laws.{length-unmap}
+use Rattle.table.proofs.Laws.{length-unmap, row-low}
 use Rattle.pala.specs.Effects.{put}
 use Rattle.pala.specs.Steps.{freshEpoch, settled}
 use Rattle.pala.proofs.Shapes.{shaped-count}
@@ -26,16 +26,16 @@ row-of-requires : tie.Need-row-of-requires
 row-of-requires c κs = search needs
 
 mul-held : tie.Need-mul-held
-mul-held c = search needs
+mul-held c = omega (arith, row-low _ _ (c .row-of .ensures))
 
 element-copy-out-held : tie.Need-element-copy-out-held
-element-copy-out-held c = search needs
+element-copy-out-held c = omega (arith, row-low _ _ (c .row-of .ensures))
 
 effect-of-requires : tie.Need-effect-of-requires
 effect-of-requires c κs =
     let r = c .before in
     let s = r .before in
-    (s .pre .0, s .pre .1, row-held (s .args .s) (held s) _ _ _ (r .row-of .ensures .0) (shaped-count _ (s .pre .0)))
+    (s .pre .0, s .pre .1, row-held (s .args .s) (held s) _ _ _ (r .row-of .ensures) (shaped-count _ (s .pre .0)))
 
 cast-i : tie.Need-cast-i
 cast-i c = search needs

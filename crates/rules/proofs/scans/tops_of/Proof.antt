@@ -1,5 +1,5 @@
 -- What is left to scan and what has won so far give both blocks. The measure is the place. Assumes nothing.
-use Prim.Native.Nat.{ℕ, _≤_, _<_, _-_}
+use Prim.Native.Nat.{ℕ, _≤_, _<_, _-_, min}
 use mathlib.Core.Bool.{Bool, _||_}
 use mathlib.Core.Path.{_≡_, ap, subst, subst₂, sym, _∙_}
 use native.Mathlib.Omega.{arith}
@@ -9,14 +9,14 @@ use lib.Dec.{leb}
 use Rattle.table.specs.declared.Epoch.{Epoch}
 use Rattle.table.proofs.Laws.{not-both}
 use Rattle.pala.proofs.Tests.{nor-l, nor-r}
-use Rattle.rules.specs.Columns.{firmBy, markAt, normalBy, numberAt}
+use Rattle.rules.specs.Columns.{markAt, numberAt, places}
 use Rattle.rules.proofs.Tops.{Scanned, scanned-start, scanned-passed, scanned-turn, scanned-end}
 use Rattle.rules.proofs.scans.tops_of.Statement.{statement}
 use Rattle.rules.proofs.scans.tops_of.Tie as tie
 
 abbrev Inv-loop : tie.InvT-loop
 Inv-loop parents epochs marks size fresh₀ last₀ k₀ fresh last k =
-    Scanned (numberAt parents) (numberAt epochs) (markAt marks) size k fresh last
+    Scanned (numberAt parents) (numberAt epochs) (markAt marks) (min size places) k fresh last
 
 abbrev μ-loop : tie.MeasureT-loop
 μ-loop parents epochs marks size fresh₀ last₀ k₀ fresh last k = k
@@ -24,11 +24,14 @@ abbrev μ-loop : tie.MeasureT-loop
 -- the epoch that a turn compares
 epoch-is : (c : tie.After-epoch-at Inv-loop μ-loop)
     → let l = c .before .before in
-    c .epoch-at .result .0 ≡ numberAt (l .before .args .epochs .now) (l .loop .k - 1)
+    c .epoch-at .result .0 ≡ numberAt (l .before .before .args .epochs .now) (l .loop .k - 1)
 epoch-is c = ap (λ (e : Epoch). e .0) (c .epoch-at .ensures)
 
+within-requires : tie.Need-within-requires Inv-loop μ-loop
+within-requires c κs = search needs
+
 loop-holds : tie.Need-loop-holds Inv-loop μ-loop
-loop-holds c = scanned-start _ _ _ _
+loop-holds c = scanned-start _ _ _ _ _ (c .within .ensures)
 
 sub-k : tie.Need-sub-k Inv-loop μ-loop
 sub-k c = omega arith
@@ -122,6 +125,7 @@ tops-of-spec =
     (tie.spec
     Inv-loop
     μ-loop
+    within-requires
     loop-holds
     sub-k
     epoch-at-requires
