@@ -1,7 +1,7 @@
 -- The places that the rules go by: a name's, a parent's, the freshest block's, the candidate's, and what a block that may be voted for
 -- has. Assumes nothing.
 use Prim.Native.Nat.{ℕ, _≤_, _<_}
-use mathlib.Core.Bool.{true, false, not, _&&_}
+use mathlib.Core.Bool.{true, false, not}
 use mathlib.Core.List.{List}
 use mathlib.Core.Logic.{_≢_}
 use mathlib.Core.Path.{_≡_, ap, _∙_}
@@ -12,7 +12,7 @@ use Rattle.table.specs.declared.Block.{Block}
 use Rattle.table.specs.Bytes.{same}
 use Rattle.table.specs.Rows.{size, at, find}
 use Rattle.table.proofs.Laws.{not-both, lowest-hit, lowest-below, highest-in, same-refl, same-true}
-use Rattle.pala.specs.Rules.{epochAt, parentOf, firm, freshest, votable, normal, freshestNormal, candidate}
+use Rattle.pala.specs.Rules.{epochAt, parentOf, firm, freshest, votable, freshestNormal, candidate}
 use Rattle.pala.proofs.Tests.{and-l, and-r}
 use Rattle.pala.proofs.Falls.{lower-is, lower-zero, lower-below, lower-le}
 
@@ -55,16 +55,15 @@ module _ (t : List Block) where
 
 pub freshest-in : (n : ℕ) (t : List Block) → 0 < size t → freshest n t < size t
 unfolding freshest
-freshest-in n t = highest-in (size t) (λ p. firm n t p) (λ p. epochAt t p)
+freshest-in n t = highest-in (size t) _ _
+
+normal-in : (n : ℕ) (t : List Block) → 0 < size t → freshestNormal n t < size t
+unfolding freshestNormal
+normal-in n t = highest-in (size t) _ _
 
 pub candidate-in : (n : ℕ) (t : List Block) → 0 < size t → candidate n t < size t
-unfolding candidate freshestNormal
-candidate-in n t h =
-    omega (
-      arith,
-      highest-in (size t) (λ p. firm n t p && normal t p) (λ p. epochAt t p) h,
-      parent-lower t (freshestNormal n t),
-    )
+unfolding candidate
+candidate-in n t h = omega (arith, normal-in n t h, parent-lower t (freshestNormal n t))
 
 -- ---- "A block may be voted for when ..", part by part
 
