@@ -7,7 +7,7 @@ use crate::input::{each_stretch, read_head};
 use crate::lists::{final_names, relation, Relation};
 use crate::node::step_shaped;
 use crate::record::{Kind, Record, RECORD_LEN};
-use crate::rules::{freshest, Firm};
+use crate::rules::Firm;
 use crate::state::{Epoch, Name, NodeNo, Payload, State, Voters, GENESIS};
 
 /// The most gateways a hall has.
@@ -155,7 +155,7 @@ pub fn proposed(receiver: &State, record: &Record) -> Option<Content> {
     match Kind::read(record.kind)? {
         Kind::Proposal => Some((record.epoch, record.parent, record.payload)),
         Kind::Propose => {
-            let parent = freshest(receiver, &Firm::of(receiver));
+            let parent = Firm::of(receiver).freshest;
             Some((receiver.local, receiver.row(parent).name, record.payload))
         }
         Kind::Vote | Kind::Clock | Kind::Cast | Kind::Minute => None,

@@ -37,7 +37,7 @@ const USAGE: &str = "usage: second replay < RECORDING
        second recording 4|7|32 > RECORDING
        second hall-recording 4|8 > RECORDING
        second long BYTES > RECORDING
-       second example session|stuck > RECORDING
+       second example session|stuck|late > RECORDING
        second hall-example session|sharp|liar|late > RECORDING";
 /// The exit code of a command that isn't one of these.
 const USAGE_CODE: u8 = 2;

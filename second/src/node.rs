@@ -2,7 +2,7 @@
 
 use crate::answer::{Refusal, TAKEN};
 use crate::record::{Kind, Record, RECORD_LEN};
-use crate::rules::{candidate, first_votable, freshest, is_or_descends, new_local, proposer, Firm};
+use crate::rules::{first_votable, is_or_descends, new_local, proposer, Firm};
 use crate::state::{
     well_shaped, Block, Epoch, NodeNo, Place, State, Voters, GENESIS, LAST_EPOCH, MAX_BLOCKS,
     NO_EPOCH,
@@ -102,7 +102,7 @@ fn clock_rows(state: &State, record: &Record) -> Result<Effect, Refusal> {
 fn propose_rows(state: &State, record: &Record) -> Result<Effect, Refusal> {
     refuse_if(state.local == LAST_EPOCH, Refusal::Epoch)?;
     refuse_if(state.find(&record.name).is_some(), Refusal::Name)?;
-    let parent = freshest(state, &Firm::of(state));
+    let parent = Firm::of(state).freshest;
     refuse_if(state.local <= state.row(parent).epoch, Refusal::Order)?;
     let in_turn = proposer(state.n, state.local) == Some(state.own);
     refuse_if(!in_turn, Refusal::Turn)?;
@@ -213,13 +213,13 @@ fn minute(state: &mut State) -> Record {
 
 /// "Then, always in this order": firm, freshest, local epoch, bar, final block.
 fn five_steps(state: &mut State) {
-    let freshest = freshest(state, &Firm::of(state));
-    let local = new_local(state, freshest);
+    let firm = Firm::of(state);
+    let local = new_local(state, firm.freshest);
     if local > state.local {
         state.local = local;
-        state.bar = state.row(freshest).epoch;
+        state.bar = state.row(firm.freshest).epoch;
     }
-    keep_final(state, candidate(state, freshest));
+    keep_final(state, firm.candidate);
 }
 
 /// The fifth step: the candidate is kept, or the kept one stays, or it tears.

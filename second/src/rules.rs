@@ -17,36 +17,48 @@ pub fn notarized(state: &State, place: Place) -> bool {
     place == GENESIS || state.row(place).voters.count() >= quorum(state.n)
 }
 
-/// Which places are firm, worked out once for the whole table.
-pub struct Firm([bool; ROWS]);
+/// Which places are firm and what follows from that, worked out in one pass over the
+/// table.
+pub struct Firm {
+    marks: [bool; ROWS],
+    /// "The firm block of highest epoch; of equals the lowest place."
+    pub freshest: Place,
+    /// "The parent of the firm normal block of highest epoch, lowest place among
+    /// equals; genesis if none."
+    pub candidate: Place,
+}
 
 impl Firm {
     /// "Firm when it and every ancestor up to genesis is notarized": a parent
     /// stands at a lower place, so its mark is settled before it is read.
     pub fn of(state: &State) -> Firm {
-        let mut firm = Firm([false; ROWS]);
-        firm.0[GENESIS.0] = true;
+        let mut firm = Firm {
+            marks: [false; ROWS],
+            freshest: GENESIS,
+            candidate: GENESIS,
+        };
+        firm.marks[GENESIS.0] = true;
+        let (mut freshest, mut last_normal) = (NO_EPOCH, NO_EPOCH);
         for place in state.places() {
-            firm.0[place.0] = notarized(state, place) && firm.holds(state.row(place).parent);
+            let block = state.row(place);
+            if notarized(state, place) && firm.holds(block.parent) {
+                firm.marks[place.0] = true;
+                // Places rise, so of equal epochs the lowest place stays.
+                if block.epoch > freshest {
+                    (firm.freshest, freshest) = (place, block.epoch);
+                }
+                if block.epoch > last_normal && normal(state, place) {
+                    (firm.candidate, last_normal) = (block.parent, block.epoch);
+                }
+            }
         }
         firm
     }
 
     /// Is the block at this place firm?
     pub fn holds(&self, place: Place) -> bool {
-        self.0.get(place.0).copied().unwrap_or(false)
+        self.marks.get(place.0).copied().unwrap_or(false)
     }
-}
-
-/// "The firm block of highest epoch; of equals the lowest place."
-pub fn freshest(state: &State, firm: &Firm) -> Place {
-    let mut freshest = GENESIS;
-    for place in state.places() {
-        if firm.holds(place) && state.row(place).epoch > state.row(freshest).epoch {
-            freshest = place;
-        }
-    }
-    freshest
 }
 
 /// "A block may be voted for when ..." (002, section 1.2)
@@ -87,13 +99,6 @@ pub fn new_local(state: &State, freshest: Place) -> Epoch {
 pub fn normal(state: &State, place: Place) -> bool {
     let block = state.row(place);
     place != GENESIS && block.epoch == state.row(block.parent).epoch.next()
-}
-
-/// "The parent of the last normal block on the freshest chain; genesis if there
-/// is none": the one nearest to the freshest, which may be it.
-pub fn candidate(state: &State, freshest: Place) -> Place {
-    let last_normal = state.chain(freshest).find(|place| normal(state, *place));
-    last_normal.map_or(GENESIS, |place| state.row(place).parent)
 }
 
 /// Is the block at this place the other one, or does it descend from it?

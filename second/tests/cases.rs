@@ -4,7 +4,7 @@ use second::state::{MAX_BLOCKS, MAX_NODES};
 use second::trials::cases::case;
 use second::trials::clauses::Clause;
 use second::trials::coverage::{handed_pairs, named_pairs};
-use second::trials::tally::{Tally, ALL_PAIRS};
+use second::trials::tally::{Event, Tally, ALL_PAIRS};
 use second::trials::wire::{Case, Reply};
 use second::well_shaped;
 
@@ -36,6 +36,8 @@ fn every_answer_pair_and_clause_is_met() {
     assert!(tally.longest_list >= 60, "{tally}");
     let mut rises = tally.rises.all();
     assert!(rises.all(|(_, times)| times >= CASES / 100), "{tally}");
+    let events = Event::ALL.map(|event| tally.times_of(event));
+    assert!(events.iter().all(|times| *times >= CASES / 250), "{tally}");
 }
 
 #[test]
@@ -66,11 +68,12 @@ fn handed_in_there_is_more_to_meet_than_from_a_start() {
 #[test]
 fn nothing_compared_misses_everything() {
     let missing = Tally::default().missing();
-    // 15 answers; the clauses; 3 rises of the local epoch; 3 events of the last step.
-    assert_eq!(missing.len(), 15 + Clause::ALL.len() + 3 + 3);
+    // 15 answers; the clauses; 3 rises of the local epoch; 4 events of the last step.
+    assert_eq!(missing.len(), 15 + Clause::ALL.len() + 3 + 4);
     assert!(missing.contains(&"answer 14".to_owned()));
     assert!(missing.contains(&"alone broken: local epoch at least 1".to_owned()));
     assert!(missing.contains(&"the local epoch rose by clocks that differ".to_owned()));
+    assert!(missing.contains(&"a final block came late".to_owned()));
     assert!(missing.contains(&"the state was torn".to_owned()));
 }
 

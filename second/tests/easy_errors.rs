@@ -3,7 +3,7 @@
 mod common;
 
 use common::*;
-use second::rules::{freshest, Firm};
+use second::rules::Firm;
 use second::Place;
 
 #[test]
@@ -32,7 +32,7 @@ fn the_bar_is_fixed_when_the_epoch_begins() {
     // C of epoch 3 gets firm within epoch 5: fresher than B, the bar stays at 2.
     node.take(&proposal(3, 3, C, B, PLAIN));
     node.take_all(&[vote(1, C), vote(2, C), vote(3, C)]);
-    assert_eq!(freshest(&node.state, &Firm::of(&node.state)), Place(3));
+    assert_eq!(Firm::of(&node.state).freshest, Place(3));
     assert_eq!(node.numbers(), (5, 2, 2));
     // F's parent B is no longer the freshest, but it is at the bar.
     node.take(&proposal(1, 5, F, B, PLAIN));
@@ -45,9 +45,13 @@ fn the_final_block_does_not_move_back() {
     node.take_all(&[clock(1, 5), clock(2, 5), clock(3, 5)]);
     node.take(&proposal(1, 5, E, A, PLAIN));
     node.take_all(&[vote(1, E), vote(2, E), vote(3, E)]);
-    // E's chain has A as its last normal block: the candidate is the genesis.
+    // E's chain has A as its last normal block, but B beside it is a later one.
     assert_eq!(node.numbers(), (6, 5, 1));
     assert_eq!(node.final_names(), [A]);
+    // Handed in, a kept block that descends from the candidate A stays too.
+    node.state.kept = Place(2);
+    node.take(&vote(3, B));
+    assert_eq!(node.final_names(), [A, B]);
     assert!(!node.state.torn);
 }
 

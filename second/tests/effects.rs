@@ -3,9 +3,7 @@
 mod common;
 
 use common::*;
-use second::rules::{
-    agreed_clock, candidate, freshest, is_or_descends, new_local, normal, notarized, quorum, Firm,
-};
+use second::rules::{agreed_clock, is_or_descends, new_local, normal, notarized, quorum, Firm};
 use second::state::GENESIS;
 use second::{Block, Epoch, NodeNo, Place, State, Voters};
 
@@ -26,7 +24,7 @@ const QUORUMS: [(u32, u8); 9] = [
 ];
 
 fn freshest_of(state: &State) -> Place {
-    freshest(state, &Firm::of(state))
+    Firm::of(state).freshest
 }
 
 /// A row hung under a parent place.
@@ -48,6 +46,11 @@ fn state_of(local: u32, blocks: &[Block]) -> Node {
     node.state.count = blocks.len();
     assert!(second::well_shaped(&node.state));
     node
+}
+
+/// The place of the candidate where these blocks are held.
+fn candidate_of(blocks: &[Block]) -> usize {
+    Firm::of(&state_of(9, blocks).state).candidate.0
 }
 
 /// A state of node 0 that keeps these clocks, one of each node.
@@ -443,17 +446,88 @@ fn normal_is_the_parents_epoch_plus_1() {
 
 #[test]
 fn the_candidate_is_the_parent_of_the_last_normal_block() {
-    let node = state_of(
-        9,
-        &[
+    let blocks = [
+        block(A, 1, 0, ALL),
+        block(B, 2, 1, ALL),
+        block(C, 4, 2, ALL),
+        block(D, 8, 0, ALL),
+    ];
+    // C and D are no normal blocks, so that B stays the last one.
+    let candidates = [0, 1, 2, 3, 4].map(|held| candidate_of(&blocks[..held]));
+    assert_eq!(candidates, [0, 0, 1, 1, 1]);
+}
+
+#[test]
+fn the_highest_epoch_gives_the_candidate_whatever_its_place() {
+    let first = [
+        block(A, 4, 0, ALL),
+        block(B, 5, 1, ALL),
+        block(C, 1, 0, ALL),
+        block(D, 2, 3, ALL),
+    ];
+    assert_eq!(candidate_of(&first), 1);
+    let last = [
+        block(C, 1, 0, ALL),
+        block(D, 2, 1, ALL),
+        block(A, 4, 0, ALL),
+        block(B, 5, 3, ALL),
+    ];
+    assert_eq!(candidate_of(&last), 3);
+}
+
+#[test]
+fn the_candidate_need_not_be_on_the_freshest_chain() {
+    // C of epoch 3 is freshest and stands on A beside B.
+    let blocks = [
+        block(A, 1, 0, ALL),
+        block(B, 2, 1, ALL),
+        block(C, 3, 1, ALL),
+    ];
+    assert_eq!(freshest_of(&state_of(9, &blocks).state), Place(3));
+    assert_eq!(candidate_of(&blocks), 1);
+}
+
+#[test]
+fn of_equal_epochs_the_lowest_place_gives_the_candidate() {
+    for [first, second] in [[1, 2], [2, 1]] {
+        let mut blocks = [
             block(A, 1, 0, ALL),
-            block(B, 2, 1, ALL),
-            block(C, 4, 2, ALL),
-            block(D, 8, 0, ALL),
-        ],
-    );
-    let candidates = [0, 1, 2, 3, 4].map(|place| candidate(&node.state, Place(place)).0);
-    assert_eq!(candidates, [0, 0, 1, 1, 0]);
+            block(A2, 1, 0, ALL),
+            block(B, 2, first, ALL),
+            block(D2, 2, second, ALL),
+        ];
+        assert_eq!(candidate_of(&blocks), first);
+        // Where B isn't firm, the other one is the lowest place.
+        blocks[2].voters = Voters(0b11);
+        assert_eq!(candidate_of(&blocks), second);
+    }
+}
+
+#[test]
+fn a_normal_block_that_is_not_firm_gives_no_candidate() {
+    let mut blocks = [
+        block(A, 1, 0, ALL),
+        block(B, 2, 1, ALL),
+        block(C, 3, 2, Voters(0b11)),
+    ];
+    assert_eq!(candidate_of(&blocks), 1);
+    blocks[2].voters = Voters(0b111);
+    assert_eq!(candidate_of(&blocks), 2);
+    // B and C have all votes they need, but A lacks one.
+    blocks[0].voters = Voters(0b11);
+    assert_eq!(candidate_of(&blocks), 0);
+}
+
+#[test]
+fn with_no_firm_normal_block_the_genesis_is_the_candidate() {
+    assert_eq!(candidate_of(&[]), 0);
+    // The genesis is no normal block; A's epoch isn't 1, nor C's 3.
+    let blocks = [
+        block(A, 2, 0, ALL),
+        block(B, 3, 1, Voters(0)),
+        block(C, 4, 1, ALL),
+    ];
+    assert_eq!(candidate_of(&blocks), 0);
 }
 
 #[test]
@@ -539,7 +613,7 @@ fn a_local_epoch_behind_the_freshest_catches_up_on_any_record() {
 
 #[test]
 fn a_kept_block_that_is_not_firm_is_taken_as_it_stands() {
-    // The kept C lies beside the freshest chain: the next record tears.
+    // The kept C lies beside the candidate A: the next record tears.
     let blocks = [
         block(A, 1, 0, ALL),
         block(B, 2, 1, ALL),

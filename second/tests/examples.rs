@@ -1,4 +1,4 @@
-//! The gateway's two bundled recordings: their bytes and their text.
+//! The gateway's three bundled recordings: their bytes and their text.
 
 mod common;
 
@@ -25,9 +25,40 @@ fn stuck() -> Vec<Bytes> {
     records
 }
 
+/// C is firm before B gets its third vote, which makes A final; then D follows on C.
+fn late() -> Vec<Bytes> {
+    vec![
+        proposal(1, 1, A, ZERO, PLAIN),
+        cast(0),
+        vote(1, A),
+        vote(2, A),
+        proposal(2, 2, B, A, PLAIN),
+        vote(1, B),
+        vote(2, B),
+        clock(1, 3),
+        clock(2, 3),
+        clock(3, 3),
+        proposal(3, 3, C, A, PLAIN),
+        cast(0),
+        vote(1, C),
+        vote(2, C),
+        vote(3, B),
+        propose(0, D, PLAIN),
+        cast(0),
+        vote(1, D),
+        vote(2, D),
+    ]
+}
+
+/// What `replay` prints for an example.
+fn text_of(name: &str) -> String {
+    let text = own_text(&example(name).unwrap()).unwrap();
+    String::from_utf8(text).unwrap()
+}
+
 #[test]
 fn the_bundled_files_are_the_examples() {
-    for name in ["session", "stuck"] {
+    for name in ["session", "stuck", "late"] {
         let bundled = fs::read(format!("../recordings/{name}.rec")).unwrap();
         assert!(bundled == example(name).unwrap(), "{name}");
     }
@@ -38,6 +69,7 @@ fn the_bundled_files_are_the_examples() {
 fn the_examples_byte_by_byte() {
     assert!(example("session").unwrap() == recording(4, 0, &session()));
     assert!(example("stuck").unwrap() == recording(4, 0, &stuck()));
+    assert!(example("late").unwrap() == recording(4, 0, &late()));
 }
 
 #[test]
@@ -59,7 +91,40 @@ end 17
     // 12 to 14: 0 7 8 7, 0 7 9 7, 8 7 9 7: it is 7.
     // 15: 8 8 9 7: it is 8, which two nodes keep.
     // 16 and 17: 8 9 9 7, 8 9 9 9: it is 8, then 9.
-    let text = own_text(&example("stuck").unwrap()).unwrap();
-    let text = String::from_utf8(text).unwrap();
-    assert_eq!(text, format!("{SESSION_LINES}{after}"));
+    assert_eq!(text_of("stuck"), format!("{SESSION_LINES}{after}"));
+}
+
+#[test]
+fn a_late_final_block_line_by_line() {
+    let text = "\
+1 0 1 0 0
+2 0 1 0 0
+3 0 1 0 0
+4 0 2 1 0
+5 0 2 1 0
+6 0 2 1 0
+7 0 2 1 0
+8 0 2 1 0
+9 0 2 1 0
+10 0 3 1 0
+11 0 3 1 0
+12 0 3 1 0
+13 0 3 1 0
+14 0 4 3 0
+15 0 4 3 1
+16 0 4 3 1
+17 0 4 3 1
+18 0 4 3 1
+19 0 5 4 2
+end 19
+";
+    // A quorum of four is three. 1 to 4: as in the session, A is firm: epoch 2, bar 1.
+    // 5 to 7: B of epoch 2 on A is heard and has two votes, none of its own node.
+    // 8 to 10: with the third clock of 3 the epoch is 3; A is freshest, so the bar is 1.
+    // 11 to 14: C of epoch 3 on A, whose epoch is at the bar: the own vote, then those of
+    // 1 and 2. It is firm: epoch 4, bar 3. Of normal blocks only A is firm: no final block.
+    // 15: B's third vote. B is firm and normal, epoch 2: A is final. C is still freshest.
+    // 16 to 19: epoch 4 is node 0's turn: D on C, its own vote, then those of 1 and 2. It
+    // is firm: epoch 5, bar 4. D is normal, of epoch 4: C is final, which stands on A.
+    assert_eq!(text_of("late"), text);
 }

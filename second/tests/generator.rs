@@ -12,6 +12,8 @@ const RECORDINGS: u64 = 400;
 const ANSWERS: usize = 15;
 /// By a block, by equal clocks, by clocks that differ.
 const RISES: usize = 3;
+/// A final block came late.
+const LATE: usize = 1;
 const START_LEN: usize = 2;
 
 /// How often each answer stands in a text; of refused starts, how many.
@@ -47,6 +49,7 @@ fn every_pair_that_the_table_names_is_met() {
         rises.all(|(_, times)| times >= RECORDINGS / 2),
         "{coverage}"
     );
+    assert!(coverage.late >= RECORDINGS / 20, "{coverage}");
     // What was counted is what `replay` prints.
     assert_eq!(coverage.recordings, RECORDINGS);
     assert_eq!(coverage.refused_starts, refused_starts);
@@ -82,10 +85,11 @@ fn what_no_start_leads_to_is_never_met() {
 #[test]
 fn nothing_played_misses_everything() {
     let missing = Coverage::default().missing();
-    let all = named_pairs().count() + RISES + MAX_NODES + RECORD_LEN;
+    let all = named_pairs().count() + RISES + LATE + MAX_NODES + RECORD_LEN;
     assert_eq!(missing.len(), all);
     assert!(missing.contains(&"answer 14 for kind 4".to_owned()));
     assert!(missing.contains(&"the local epoch rose by clocks that differ".to_owned()));
+    assert!(missing.contains(&"a final block came late".to_owned()));
     assert!(missing.contains(&"n = 32".to_owned()));
     assert!(missing.contains(&"a last record of 95 bytes".to_owned()));
 }

@@ -35,6 +35,12 @@ fn few_faulty(recording: &[u8]) -> bool {
     3 * (n - honest) < n
 }
 
+/// Every rise of a local epoch, and final blocks that came late.
+fn met_often(tally: &HallTally) -> bool {
+    let mut rises = tally.rises.all();
+    rises.all(|(_, times)| times >= ENOUGH) && tally.late >= ENOUGH / 20
+}
+
 #[test]
 fn all_is_met_and_few_faulty_never_make_a_no() {
     let mut tally = HallTally::default();
@@ -60,8 +66,7 @@ fn all_is_met_and_few_faulty_never_make_a_no() {
     }
     assert_eq!(tally.missing(), Vec::<String>::new(), "{tally}");
     assert!(few >= 150 && tally.forked >= 10 && tally.torn >= 5 && tally.full >= 20);
-    let mut rises = tally.rises.all();
-    assert!(rises.all(|(_, times)| times >= ENOUGH), "{tally}");
+    assert!(met_often(&tally), "{tally}");
     // What was counted is what `hall` prints.
     assert_eq!((tally.recordings, tally.refused_heads), (ENOUGH, refused));
     assert_eq!((tally.no, tally.broken), (no, 0));
@@ -128,9 +133,9 @@ fn nothing_played_misses_everything_once_it_is_enough() {
     assert_eq!(tally.missing(), Vec::<String>::new());
     tally.recordings = ENOUGH;
     let missing = tally.missing();
-    // 15, yes and no; 3 rises of a local epoch; 4 shares of faulty; 7 meetings; 12
-    // renamings; n; last lengths.
-    let all = hall_pairs().count() + 3 + 3 + 4 + 7 + 12 + 8 + 97;
+    // 15, yes, no and a late final block; 3 rises of a local epoch; 4 shares of faulty;
+    // 7 meetings; 12 renamings; n; last lengths.
+    let all = hall_pairs().count() + 4 + 3 + 4 + 7 + 12 + 8 + 97;
     assert_eq!(missing.len(), all);
     for words in [
         "answer 0 for kind 5",
@@ -140,6 +145,7 @@ fn nothing_played_misses_everything_once_it_is_enough() {
         "answer 15",
         "no",
         "the local epoch rose by clocks that differ",
+        "a final block came late",
         "22: own, another's table, only the parent differs",
         "n = 8",
         "a last record of 0 bytes",

@@ -57,20 +57,30 @@ fn the_first_difference_is_shown_and_kept() {
     std::fs::remove_file(path).unwrap();
 }
 
+/// A program whose text is changed so differs first in this line of an example.
+fn differs_in_example(name: &str, change: &str, expected: &str, printed_line: &str) {
+    let wrong = program(&format!("example-{name}"), change);
+    let output = second(&["compare-replay", &wrong, "1", "2"]);
+    assert_eq!(output.status.code(), Some(1));
+    let lines: Vec<&str> = printed(&output).lines().collect();
+    let first = format!("example {name}: another text, exit status: 0");
+    assert_eq!(lines[0], first);
+    let kept = lines[1].strip_prefix("kept as ").unwrap();
+    assert!(std::fs::read(kept).unwrap() == example(name).unwrap());
+    assert_eq!(lines[2], format!("expected \"{expected}\\n\""));
+    assert_eq!(lines[3], format!("printed  \"{printed_line}\\n\""));
+    assert_eq!(lines.len(), 4);
+    std::fs::remove_file(kept).unwrap();
+}
+
 #[test]
 fn the_examples_are_played_first() {
     // As if only equal clocks counted.
-    let stuck = program("stuck", "| sed 's/^15 0 8 2 1$/15 0 7 2 1/'");
-    let output = second(&["compare-replay", &stuck, "1", "2"]);
-    assert_eq!(output.status.code(), Some(1));
-    let lines: Vec<&str> = printed(&output).lines().collect();
-    assert_eq!(lines[0], "example stuck: another text, exit status: 0");
-    let kept = lines[1].strip_prefix("kept as ").unwrap();
-    assert!(std::fs::read(kept).unwrap() == example("stuck").unwrap());
-    assert_eq!(lines[2], "expected \"15 0 8 2 1\\n\"");
-    assert_eq!(lines[3], "printed  \"15 0 7 2 1\\n\"");
-    assert_eq!(lines.len(), 4);
-    std::fs::remove_file(kept).unwrap();
+    let change = "| sed 's/^15 0 8 2 1$/15 0 7 2 1/'";
+    differs_in_example("stuck", change, "15 0 8 2 1", "15 0 7 2 1");
+    // As if only normal blocks on the freshest chain counted.
+    let change = "| sed 's/^\\(1[5-8] 0 4 3\\) 1$/\\1 0/'";
+    differs_in_example("late", change, "15 0 4 3 1", "15 0 4 3 0");
 }
 
 #[test]

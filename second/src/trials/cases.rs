@@ -4,7 +4,7 @@
 use std::io::{self, Write};
 
 use crate::record::{Kind, Record, RECORD_LEN};
-use crate::rules::{freshest, proposer, quorum, Firm};
+use crate::rules::{proposer, quorum, Firm};
 use crate::state::{Epoch, Name, NodeNo, Place, State, GENESIS, LAST_EPOCH, NO_EPOCH};
 
 use super::breaks::break_shape;
@@ -202,8 +202,7 @@ fn other_node(random: &mut Random, state: &State, such: impl Fn(NodeNo) -> bool)
 
 /// A clock that others keep already, or one near the local epoch or the freshest.
 fn clock(random: &mut Random, state: &State) -> Record {
-    let freshest = freshest(state, &Firm::of(state));
-    let after_freshest = state.row(freshest).epoch.next();
+    let after_freshest = state.row(Firm::of(state).freshest).epoch.next();
     let others = state.clocks[random.below(state.n as usize)];
     let epoch = random.weighted(&[
         (others, 6),

@@ -7,6 +7,7 @@ use crate::lists::final_length;
 use crate::record::{Kind, RECORD_LEN};
 use crate::state::{State, MAX_BLOCKS, MAX_NODES};
 
+use super::late::CAME_LATE;
 use super::rises::Rises;
 
 /// The answers of a record: taken, and rows 1 to 14.
@@ -122,6 +123,8 @@ pub struct Coverage {
     pub longest_list: usize,
     /// What let local epochs rise.
     pub rises: Rises,
+    /// Final blocks that came late.
+    pub late: u64,
     answers: Answers,
     node_counts: [u64; MAX_NODES],
     last_lengths: [u64; RECORD_LEN],
@@ -138,6 +141,7 @@ impl Default for Coverage {
             full: 0,
             longest_list: 0,
             rises: Rises::default(),
+            late: 0,
             answers: Answers::default(),
             node_counts: [0; MAX_NODES],
             last_lengths: [0; RECORD_LEN],
@@ -184,6 +188,9 @@ impl Coverage {
     pub fn missing(&self) -> Vec<String> {
         let mut missing = self.answers.missing(named_pairs());
         missing.extend(self.rises.missing());
+        if self.late == 0 {
+            missing.push(CAME_LATE.to_owned());
+        }
         let counts = zeros(&self.node_counts);
         missing.extend(counts.map(|index| format!("n = {}", index + 1)));
         let lengths = zeros(&self.last_lengths);
@@ -249,6 +256,6 @@ impl fmt::Display for Coverage {
         for (rise, times) in self.rises.all() {
             write!(text, ", {} {times} times", rise.words())?;
         }
-        Ok(())
+        write!(text, ", {CAME_LATE} {} times", self.late)
     }
 }

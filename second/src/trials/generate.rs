@@ -57,6 +57,7 @@ pub const CALM: Habits = Habits {
     disorder: 2,
     lost: 300,
     repeated: 40,
+    slow: 8,
     echo: ECHO_PARTS - 1,
     honest: 5,
 };
@@ -71,6 +72,7 @@ const ROUGH: Habits = Habits {
     disorder: 12,
     lost: 12,
     repeated: 8,
+    slow: 4,
     echo: ECHO_PARTS - 2,
     honest: 5,
 };
@@ -85,6 +87,7 @@ const FLOOD: Habits = Habits {
     disorder: 6,
     lost: 50,
     repeated: 30,
+    slow: 12,
     echo: 1,
     honest: 2,
 };
@@ -99,6 +102,7 @@ const FORKED: Habits = Habits {
     disorder: 3,
     lost: 100,
     repeated: 50,
+    slow: 4,
     echo: ECHO_PARTS,
     honest: 2,
 };
@@ -113,6 +117,7 @@ const STRANGE: Habits = Habits {
     disorder: 8,
     lost: 20,
     repeated: 10,
+    slow: 6,
     echo: ECHO_PARTS - 2,
     honest: 3,
 };

@@ -9,7 +9,7 @@ use std::collections::VecDeque;
 
 use crate::answer::TAKEN;
 use crate::record::{Kind, Record, RECORD_LEN};
-use crate::rules::{first_votable, freshest, proposer, Firm};
+use crate::rules::{first_votable, proposer, Firm};
 use crate::state::{Epoch, Name, NodeNo, State, NAME_LEN};
 
 use super::random::Random;
@@ -26,6 +26,9 @@ const PATIENCE: usize = 30;
 const BUSY: usize = 40;
 /// In a quiet hall so many of the newest records are sent again.
 const SENT_AGAIN: usize = 8;
+/// Votes held back for long enough arrive once in so many times that their gateway
+/// gets on.
+const RELEASED: usize = 2;
 
 /// What goes on in a hall. The first six say how often each thing happens.
 #[derive(Clone, Copy, Debug)]
@@ -48,6 +51,8 @@ pub struct Habits {
     pub lost: usize,
     /// A record arrives and stays on its way once in so many times.
     pub repeated: usize,
+    /// The votes for a block are held back once in so many times.
+    pub slow: usize,
     /// So many of [`ECHO_PARTS`] blocks does a faulty gateway vote for.
     pub echo: usize,
     /// At most so many gateways are honest, but for a hall where all are; not asked
@@ -116,6 +121,9 @@ pub struct Hall<'a, D> {
     desk: D,
     faulty: Vec<NodeNo>,
     letters: VecDeque<Letter>,
+    /// The proposal whose votes are held back, and the votes that were.
+    slow: Option<Record>,
+    held_back: Vec<Letter>,
     sent: Vec<Record>,
     names: Names,
     names_made: u32,
@@ -140,6 +148,8 @@ impl<'a, D: Desk> Hall<'a, D> {
             desk,
             faulty,
             letters: VecDeque::new(),
+            slow: None,
+            held_back: Vec::new(),
             sent: Vec::new(),
             names,
             names_made: 0,
@@ -221,6 +231,20 @@ impl<'a, D: Desk> Hall<'a, D> {
         }
         if changed {
             self.call_host(to, false);
+            self.release(to);
+        }
+    }
+
+    /// Votes held back from a gateway arrive before all else, once it has gone two
+    /// epochs on: by then a later block may be firm there.
+    fn release(&mut self, to: usize) {
+        let local = self.desk.gateway(to).local;
+        let slow = self.slow.as_ref();
+        let long_enough = slow.is_some_and(|slow| local > slow.epoch.next());
+        if long_enough && self.random.once_in(RELEASED) {
+            for letter in self.held_back.extract_if(.., |letter| letter.to == to) {
+                self.letters.push_front(letter);
+            }
         }
     }
 
@@ -266,16 +290,23 @@ impl<'a, D: Desk> Hall<'a, D> {
         }
         let local = self.receiver().local;
         if let Some(node) = self.faulty_proposer(local) {
-            let freshest = freshest(self.receiver(), &Firm::of(self.receiver()));
+            let freshest = Firm::of(self.receiver()).freshest;
             let parent = self.receiver().row(freshest).name;
             self.propose_as(node, local, parent, self.habits.lost);
         }
     }
 
-    /// Puts a record on its way to one gateway.
+    /// Puts a record on its way to one gateway, or holds it back.
     fn post(&mut self, to: usize, record: &Record) {
+        let is_vote = record.kind == Kind::Vote.number();
+        let slow = self.slow.as_ref().filter(|_| is_vote);
+        let is_slow = slow.is_some_and(|slow| slow.name == record.name);
         let record = records::bytes(record);
-        self.letters.push_back(Letter { to, record });
+        if is_slow {
+            self.held_back.push(Letter { to, record });
+        } else {
+            self.letters.push_back(Letter { to, record });
+        }
     }
 
     /// The side of a hall that a gateway is on; one side doesn't hear the other.
@@ -296,6 +327,9 @@ impl<'a, D: Desk> Hall<'a, D> {
         }
         self.sent.push(record.clone());
         if record.kind == Kind::Proposal.number() {
+            if self.random.once_in(self.habits.slow) {
+                self.slow = Some(record.clone());
+            }
             for node in self.faulty.clone() {
                 if self.random.below(ECHO_PARTS) < self.habits.echo {
                     self.send(&records::vote(node, record.name), lost);

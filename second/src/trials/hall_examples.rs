@@ -3,13 +3,12 @@
 use crate::record::Record;
 use crate::state::{Epoch, Name, NodeNo, Payload, NAME_LEN, PAYLOAD_LEN};
 
-use super::examples::{cast, clock, heard, minute, propose, vote, A, B, GENESIS_NAME};
+use super::examples::{cast, clock, heard, minute, propose, vote, A, B, C, GENESIS_NAME};
 use super::records::{self, stretch};
 
 /// The names of the recordings.
 pub const EXAMPLES: [&str; 4] = ["session", "sharp", "liar", "late"];
 
-const C: Name = [0x0C; NAME_LEN];
 /// The other blocks that a faulty proposer has for the epochs of B and C.
 const OTHER_B: Name = [0x1B; NAME_LEN];
 const OTHER_C: Name = [0x1C; NAME_LEN];

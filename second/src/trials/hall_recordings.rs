@@ -48,6 +48,7 @@ const TWO_FACED: Habits = Habits {
     strange: 0,
     lost: 1000,
     repeated: 100,
+    slow: 1000,
     echo: ECHO_PARTS,
     ..CALM
 };

@@ -9,6 +9,7 @@ use crate::record::{Kind, Record, RECORD_LEN};
 use crate::state::{Name, NodeNo, State, MAX_BLOCKS};
 
 use super::coverage::{hall_pairs, zeros, Answers};
+use super::late::CAME_LATE;
 use super::rises::Rises;
 
 /// From so many recordings on, all has to be met.
@@ -127,6 +128,8 @@ pub struct HallTally {
     pub longest_list: usize,
     /// What let the honest gateways' local epochs rise.
     pub rises: Rises,
+    /// Final blocks that came late to an honest gateway.
+    pub late: u64,
     answers: Answers<HALL_ANSWERS>,
     faulty: [u64; Faulty::ALL.len()],
     meetings: [u64; Meeting::ALL.len()],
@@ -149,6 +152,7 @@ impl Default for HallTally {
             full: 0,
             longest_list: 0,
             rises: Rises::default(),
+            late: 0,
             answers: Answers::default(),
             faulty: [0; Faulty::ALL.len()],
             meetings: [0; Meeting::ALL.len()],
@@ -221,8 +225,8 @@ impl HallTally {
             return Vec::new();
         }
         let mut missing = self.answers.missing(hall_pairs());
-        let lines = [self.refused_heads, self.yes, self.no];
-        let words = ["answer 15", "yes", "no"];
+        let lines = [self.refused_heads, self.yes, self.no, self.late];
+        let words = ["answer 15", "yes", "no", CAME_LATE];
         missing.extend(zeros(&lines).map(|line| words[line].to_owned()));
         missing.extend(self.rises.missing());
         missing.extend(zeros(&self.faulty).map(|index| Faulty::ALL[index].words().to_owned()));
@@ -323,6 +327,7 @@ impl fmt::Display for HallTally {
         for (rise, times) in self.rises.all() {
             writeln!(text, "{times:>10}  {}", rise.words())?;
         }
+        writeln!(text, "{:>10}  {CAME_LATE}", self.late)?;
         for meeting in Meeting::ALL {
             let times = self.meetings[meeting as usize];
             writeln!(text, "{times:>10}  {}", meeting.words())?;

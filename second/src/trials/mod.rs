@@ -1,10 +1,10 @@
 //! What the proved programs are compared with this one by, and timed against.
 //!
 //! [`generate`] makes recordings from a [`hall`] of gateways, with [`damage`]
-//! mixed in; [`coverage`] counts which answers they met and [`rises`] what let
-//! local epochs rise; [`compare`] plays them to another program, after
-//! [`examples`]. [`script`] does the same for the two functions that C calls.
-//! [`load`] makes the recordings that [`mod@bench`] times.
+//! mixed in; [`coverage`] counts which answers they met, [`rises`] what let local
+//! epochs rise and [`late`] which final blocks came late; [`compare`] plays them to
+//! another program, after [`examples`]. [`script`] does the same for the two
+//! functions that C calls. [`load`] makes the recordings that [`mod@bench`] times.
 //!
 //! [`hall_recordings`] takes down all that the honest gateways of a [`hall`] hear;
 //! [`hall_tally`] counts what that met and [`compare_hall`] plays it to another
@@ -31,6 +31,7 @@ pub mod hall_examples;
 pub mod hall_load;
 pub mod hall_recordings;
 pub mod hall_tally;
+pub mod late;
 pub mod load;
 pub mod random;
 pub mod records;

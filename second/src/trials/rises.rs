@@ -1,6 +1,6 @@
 //! What let a local epoch rise: a block, equal clocks, or clocks that differ.
 
-use crate::rules::{freshest, quorum, Firm};
+use crate::rules::{quorum, Firm};
 use crate::state::{Epoch, State};
 
 /// What let the local epoch rise.
@@ -22,7 +22,7 @@ impl Rise {
         if state.local <= local {
             return None;
         }
-        let freshest = freshest(state, &Firm::of(state));
+        let freshest = Firm::of(state).freshest;
         let clocks = state.clocks.iter().take(state.n as usize);
         let equal = clocks.filter(|clock| **clock == state.local).count();
         Some(if state.local == state.row(freshest).epoch.next() {

@@ -1,7 +1,7 @@
 //! Well-shaped states that are built directly: a forest of blocks with voters,
 //! and around it numbers that no run need ever lead to.
 
-use crate::rules::{candidate, freshest, is_or_descends, quorum, Firm};
+use crate::rules::{is_or_descends, quorum, Firm};
 use crate::state::{
     Block, Epoch, Name, NodeNo, Place, State, Voters, FIRST_EPOCH, GENESIS, LAST_EPOCH, MAX_BLOCKS,
     MAX_NODES, NAME_LEN, NO_EPOCH,
@@ -391,8 +391,7 @@ fn some_nodes(random: &mut Random, n: u32, count: u32) -> Voters {
 
 /// The local epoch first, as the other numbers are often near it.
 fn fill_numbers(random: &mut Random, state: &mut State) {
-    let freshest = freshest(state, &Firm::of(state));
-    let freshest = state.row(freshest).epoch;
+    let freshest = state.row(Firm::of(state).freshest).epoch;
     state.local = number(random, state, freshest, &LOCALS).max(FIRST_EPOCH);
     state.bar = number(random, state, freshest, &BARS);
     state.voted = number(random, state, freshest, &NOTES);
@@ -449,7 +448,7 @@ fn number(
 }
 
 fn kept(random: &mut Random, state: &State) -> Place {
-    let candidate = candidate(state, freshest(state, &Firm::of(state)));
+    let candidate = Firm::of(state).candidate;
     let any = |random: &mut Random, places: Vec<Place>| random.one_of(&places);
     match random.weighted(&KEPT) {
         Kept::Candidate => candidate,

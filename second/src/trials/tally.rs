@@ -4,11 +4,12 @@
 use std::fmt;
 
 use crate::answer::TAKEN;
-use crate::rules::{candidate, freshest, Firm};
+use crate::rules::Firm;
 use crate::state::{State, MAX_NODES, ROWS};
 
 use super::clauses::{broken, Clause};
 use super::coverage::{handed_pairs, zeros, Answers, COLUMNS};
+use super::late::{came_late, CAME_LATE};
 use super::rises::Rises;
 use super::wire::{Case, Reply};
 
@@ -20,6 +21,8 @@ pub const ALL_PAIRS: u64 = 20_000;
 pub enum Event {
     /// The candidate took the place of the kept final block.
     KeptMoved,
+    /// It did so late, through a block beside the freshest chain.
+    CameLate,
     /// The kept final block stayed, as it descends from the candidate.
     KeptStayed,
     /// Neither descends from the other.
@@ -27,11 +30,18 @@ pub enum Event {
 }
 
 impl Event {
-    const ALL: [Event; 3] = [Event::KeptMoved, Event::KeptStayed, Event::Torn];
+    /// Each of them.
+    pub const ALL: [Event; 4] = [
+        Event::KeptMoved,
+        Event::CameLate,
+        Event::KeptStayed,
+        Event::Torn,
+    ];
 
     fn words(self) -> &'static str {
         match self {
             Event::KeptMoved => "the kept block moved",
+            Event::CameLate => CAME_LATE,
             Event::KeptStayed => "the kept block stayed past the candidate",
             Event::Torn => "the state was torn",
         }
@@ -94,6 +104,11 @@ impl Tally {
         }
     }
 
+    /// How often a taken record did this.
+    pub fn times_of(&self, event: Event) -> u64 {
+        self.events[event as usize]
+    }
+
     /// All cases counted.
     pub fn cases(&self) -> u64 {
         self.answers.total()
@@ -137,12 +152,12 @@ impl Tally {
 
 /// What the last step did between a state and the one that came back.
 fn events(before: &State, after: &State) -> Vec<Event> {
-    let freshest = freshest(after, &Firm::of(after));
     let moved = after.kept != before.kept;
-    let stayed = !after.torn && after.kept != candidate(after, freshest);
+    let stayed = !after.torn && after.kept != Firm::of(after).candidate;
     let mut events = Event::ALL.to_vec();
     events.retain(|event| match event {
         Event::KeptMoved => moved,
+        Event::CameLate => came_late(before.kept, after),
         Event::KeptStayed => stayed,
         Event::Torn => after.torn,
     });
@@ -179,8 +194,7 @@ impl fmt::Display for Tally {
             write!(text, "\n{times:>10}  {}", rise.words())?;
         }
         for event in Event::ALL {
-            let times = self.events[event as usize];
-            write!(text, "\n{times:>10}  {}", event.words())?;
+            write!(text, "\n{:>10}  {}", self.times_of(event), event.words())?;
         }
         Ok(())
     }

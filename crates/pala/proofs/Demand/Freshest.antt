@@ -21,7 +21,7 @@ module _ (n : ℕ) (t : List Block) where
   pub freshest-firm : firm n t (freshest n t) ≡ true
   unfolding freshest
   freshest-firm =
-      ⊎-elim (λ e. ap (firm n t) e ∙ firm-zero n t) (λ e. e .1) (highest-passes (size t) (λ p. firm n t p) (λ p. epochAt t p))
+      ⊎-elim (λ e. ap (firm n t) e ∙ firm-zero n t) (λ e. e .1) (highest-passes (size t) (λ p. firm n t p) _)
 
   pub freshest-best : (p : ℕ) → p < size t → firm n t p ≡ true → epochAt t p ≤ epochAt t (freshest n t)
   unfolding freshest
@@ -86,7 +86,7 @@ module _ (n : ℕ) (t : List Block) where
 
   found : (top ≡ 0) ⊎ ((top < size t) × (both top ≡ true))
   unfolding top freshestNormal
-  found = highest-passes (size t) both (λ p. epochAt t p)
+  found = highest-passes (size t) both _
 
   normal-next : (p : ℕ) → both p ≡ true → epochAt t p ≡ epochAt t (parentOf t p) + 1
   unfolding normal

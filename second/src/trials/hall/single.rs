@@ -4,6 +4,7 @@ use crate::node::step_shaped;
 use crate::record::RECORD_LEN;
 use crate::state::{NodeNo, State};
 use crate::trials::coverage::Coverage;
+use crate::trials::late::came_late;
 use crate::trials::random::Random;
 use crate::trials::records::{self, RecordBytes};
 
@@ -32,12 +33,13 @@ impl Desk for Single<'_> {
 
     fn play(&mut self, to: usize, record: &RecordBytes, sent: &mut RecordBytes) -> u8 {
         let gateway = &mut self.gateways[to];
-        let local = gateway.local;
+        let (local, kept) = (gateway.local, gateway.kept);
         let answer = step_shaped(gateway, record, sent);
         if to == RECEIVER {
             self.heard.push(*record);
             self.coverage.count_record(record, answer);
             self.coverage.rises.count(local, gateway);
+            self.coverage.late += u64::from(came_late(kept, gateway));
         }
         answer
     }

@@ -6,6 +6,7 @@ use crate::hall;
 use crate::record::RECORD_LEN;
 use crate::state::{NodeNo, State};
 use crate::trials::hall_tally::HallTally;
+use crate::trials::late::came_late;
 use crate::trials::random::Random;
 use crate::trials::records::{self, stretch, RecordBytes};
 
@@ -28,13 +29,15 @@ pub struct Whole<'a> {
 impl Whole<'_> {
     /// Plays a record of any length to any receiver.
     pub(super) fn hear(&mut self, to: NodeNo, record: &[u8], sent: &mut RecordBytes) -> u8 {
-        let local = self.hall.gateway(to).map(|receiver| receiver.local);
+        let receiver = self.hall.gateway(to);
+        let before = receiver.map(|receiver| (receiver.local, receiver.kept));
         let answer = self.hall.hear(to, record, sent);
         self.recording.extend(stretch(to, record));
         self.heard.extend(record.as_array());
         self.tally.count_record(&self.hall, to, record, answer);
-        if let (Some(local), Some(receiver)) = (local, self.hall.gateway(to)) {
+        if let (Some((local, kept)), Some(receiver)) = (before, self.hall.gateway(to)) {
             self.tally.rises.count(local, receiver);
+            self.tally.late += u64::from(came_late(kept, receiver));
         }
         answer
     }
