@@ -1,6 +1,6 @@
 -- The one scan that finds the freshest block and the freshest normal one: what holds before each turn. Assumes nothing.
 use Prim.Native.Nat.{ℕ, _-_, _≤_, _<_}
-use mathlib.Core.Bool.{Bool, true, false, _&&_, and-eq-true-iff}
+use mathlib.Core.Bool.{Bool, true, false, _&&_}
 use mathlib.Core.Path.{_≡_, sym, ap, _∙_}
 use native.Mathlib.Omega.{arith}
 use borrow.Author.Tests.{leb-true, leb-false}
@@ -9,6 +9,7 @@ use Rattle.table.specs.declared.Epoch.{Epoch}
 use Rattle.table.specs.declared.Place.{Place}
 use Rattle.table.specs.Scan.{pick}
 use Rattle.table.proofs.Laws.{pick-case, not-both}
+use Rattle.pala.proofs.Tests.{and-l, and-r, nand}
 use Rattle.rules.specs.declared.Top.{Top}
 use Rattle.rules.specs.declared.scans.Tops.{Tops}
 use Rattle.rules.specs.Columns.{firmBy, freshestBy, normalBy, freshestNormalBy}
@@ -50,9 +51,6 @@ module _ (up epoch : ℕ → ℕ) (mark : ℕ → Bool) where
       }
 
   module _ {size k : ℕ} {fresh last : Top} (w : Scanned size k fresh last) where
-    both-firm : (p : ℕ) → both p ≡ true → (firmBy up mark p ≡ true) × (normalBy up epoch p ≡ true)
-    both-firm p = and-eq-true-iff (firmBy up mark p) (normalBy up epoch p) .0
-
     -- a block that isn't firm, or is earlier than the freshest and isn't normal or earlier than the last normal one too, is passed over
     pub scanned-passed : 1 < k
         → (firmBy up mark (k - 1) ≡ true → (epoch (k - 1) < fresh .epoch .0) × (normalBy up epoch (k - 1) ≡ true → epoch (k - 1) < last .epoch .0))
@@ -60,21 +58,30 @@ module _ (up epoch : ℕ → ℕ) (mark : ℕ → Bool) where
     scanned-passed more h =
         record {
           freshly = w .freshly ∙ joined-passed firmly epoch k (fresh .place .0) (fresh .epoch .0) more (λ y. h y .0);
-          lately = w .lately ∙ joined-passed both epoch k (last .place .0) (last .epoch .0) more (λ y. h (both-firm (k - 1) y .0) .1 (both-firm (k - 1) y .1));
+          lately = w .lately ∙ joined-passed both epoch k (last .place .0) (last .epoch .0) more (λ y. h (and-l (firmBy up mark (k - 1)) _ y) .1 (and-r (firmBy up mark (k - 1)) _ y));
           order = w .order;
         }
 
-    -- a firm block that is no earlier than the last normal one wins by its epoch, and by being normal
-    pub scanned-turn : (here : Top) (fresher next : Bool) → 1 < k → here ≡ topAt epoch (k - 1) → firmBy up mark (k - 1) ≡ true → last .epoch .0 ≤ epoch (k - 1)
-        → fresher ≡ leb (fresh .epoch .0) (epoch (k - 1)) → next ≡ normalBy up epoch (k - 1)
+    -- a block that is no earlier than the last normal one wins, being firm, by its epoch and by being normal
+    pub scanned-turn : (here : Top) (fresher next : Bool) → 1 < k → here ≡ topAt epoch (k - 1) → last .epoch .0 ≤ epoch (k - 1)
+        → fresher ≡ (firmBy up mark (k - 1) && leb (fresh .epoch .0) (epoch (k - 1))) → next ≡ both (k - 1)
         → Scanned size (k - 1) (pick fresher here fresh) (pick next here last)
-    scanned-turn here fresher next more e f l a b =
+    scanned-turn here fresher next more e l a b =
         record {
-          freshly = w .freshly ∙ against-turn firmly epoch k here fresh fresher more e (λ y. (f, leb-true _ _ (sym a ∙ y))) (λ n _. leb-false _ _ (sym a ∙ n));
-          lately = w .lately ∙ against-turn both epoch k here last next more e (λ y. (and-eq-true-iff (firmBy up mark (k - 1)) (normalBy up epoch (k - 1)) .1 (f, sym b ∙ y), l)) (λ n y. absurd (not-both (both-firm (k - 1) y .1) (sym b ∙ n)));
+          freshly = w .freshly ∙ against-turn firmly epoch k here fresh fresher more e (λ y. (and-l firm-here later (sym a ∙ y), leb-true _ _ (and-r firm-here later (sym a ∙ y)))) earlier;
+          lately = w .lately ∙ against-turn both epoch k here last next more e (λ y. (sym b ∙ y, l)) (λ n y. absurd (not-both y (sym b ∙ n)));
           order = ordered;
         }
       where
+        firm-here : Bool
+        firm-here = firmBy up mark (k - 1)
+
+        later : Bool
+        later = leb (fresh .epoch .0) (epoch (k - 1))
+
+        earlier : fresher ≡ false → firm-here ≡ true → epoch (k - 1) < fresh .epoch .0
+        earlier n f = leb-false (fresh .epoch .0) (epoch (k - 1)) (nand firm-here later (sym a ∙ n) f)
+
         here-is : here .epoch .0 ≡ epoch (k - 1)
         here-is = ap (λ (t : Top). t .epoch .0) e
 
@@ -82,7 +89,7 @@ module _ (up epoch : ℕ → ℕ) (mark : ℕ → Bool) where
         ordered =
             pick-case (λ (t : Top). pick next here last .epoch .0 ≤ t .epoch .0) fresher here fresh
             (λ y. pick-case (λ (t : Top). t .epoch .0 ≤ here .epoch .0) next here last (λ _. omega arith) (λ _. omega (arith, here-is)))
-            (λ n. pick-case (λ (t : Top). t .epoch .0 ≤ fresh .epoch .0) next here last (λ _. omega (arith, here-is, leb-false (fresh .epoch .0) (epoch (k - 1)) (sym a ∙ n))) (λ _. w .order))
+            (λ n. pick-case (λ (t : Top). t .epoch .0 ≤ fresh .epoch .0) next here last (λ y. omega (arith, here-is, earlier n (and-l firm-here (normalBy up epoch (k - 1)) (sym b ∙ y)))) (λ _. w .order))
 
     -- once all are passed, what won is told against the genesis's epoch
     pub scanned-end : (root : Epoch) (found normal : Place) → k ≤ 1 → root .0 ≡ epoch 0

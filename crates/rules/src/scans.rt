@@ -83,11 +83,9 @@ pub fn tops_of<'a>(
         if !(fresher | next) {
             continue;
         }
-        if !firm(parents, marks, Place(k)) {
-            continue;
-        }
-        fresh = winner(fresher, here, fresh);
-        last = winner(next, here, last);
+        let firmly = firm(parents, marks, Place(k));
+        fresh = winner(firmly & fresher, here, fresh);
+        last = winner(firmly & next, here, last);
     }
     let root = epoch_at(epochs, Place(0));
     Tops {

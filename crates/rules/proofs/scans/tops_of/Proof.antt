@@ -1,10 +1,10 @@
 -- What is left to scan and what has won so far give both blocks. The measure is the place. Assumes nothing.
 use Prim.Native.Nat.{ℕ, _≤_, _<_, _-_, min}
-use mathlib.Core.Bool.{Bool, _||_}
-use mathlib.Core.Path.{_≡_, ap, subst, subst₂, sym, _∙_}
+use mathlib.Core.Bool.{Bool, _&&_}
+use mathlib.Core.Path.{_≡_, ap, ap₂, subst, subst₂, sym, _∙_}
 use native.Mathlib.Omega.{arith}
 use borrow.Author.Needs.{needs}
-use borrow.Author.Tests.{leb-false, not-true, not-false}
+use borrow.Author.Tests.{leb-false, not-true}
 use lib.Dec.{leb}
 use Rattle.table.specs.declared.Epoch.{Epoch}
 use Rattle.table.proofs.Laws.{not-both}
@@ -67,29 +67,18 @@ loop-again-2 c =
 firm-requires : tie.Need-firm-requires Inv-loop μ-loop
 firm-requires c κs = search needs
 
-loop-less-3 : tie.Need-loop-less-3 Inv-loop μ-loop
-loop-less-3 c = omega arith
-
-loop-again-3 : tie.Need-loop-again-3 Inv-loop μ-loop
-loop-again-3 c =
-    let f = c .before in
-    let e = f .before .before .before .before .before .before .before .before in
-    let l = e .before .before in
-    scanned-passed _ _ _ (l .loop .inv) (e .before .loop-test .taken) (λ y. absurd (not-both y (sym (f .firm .ensures) ∙ not-true _ (c .if3 .taken))))
-
 winner-requires : tie.Need-winner-requires Inv-loop μ-loop
 winner-requires c κs = search needs
 
 winner-requires-2 : tie.Need-winner-requires-2 Inv-loop μ-loop
 winner-requires-2 c κs = search needs
 
-loop-less-4 : tie.Need-loop-less-4 Inv-loop μ-loop
-loop-less-4 c = omega arith
+loop-less-3 : tie.Need-loop-less-3 Inv-loop μ-loop
+loop-less-3 c = omega arith
 
-loop-again-4 : tie.Need-loop-again-4 Inv-loop μ-loop
-loop-again-4 c =
-    let g = c .before .before in
-    let f = g .before in
+loop-again-3 : tie.Need-loop-again-3 Inv-loop μ-loop
+loop-again-3 c =
+    let f = c .before .before in
     let m = f .before .before in
     let i = m .before .before .before in
     let e = i .before .before .before in
@@ -98,10 +87,9 @@ loop-again-4 c =
     subst₂ (Scanned _ _ _ _ _) (sym (c .before .winner .ensures)) (sym (c .winner2 .ensures))
     (scanned-turn _ _ _ (l .loop .inv) _ _ _ (e .before .loop-test .taken)
     (ap (λ (x : Epoch). record { place = record { 0 = l .loop .k - 1 }; epoch = x }) (e .epoch-at .ensures))
-    (sym (f .firm .ensures) ∙ not-false _ (g .if3 .left))
     (subst (λ (x : ℕ). l .loop .last .epoch .0 ≤ x) here (i .if1 .left))
-    (ap (λ (x : ℕ). leb (l .loop .fresh .epoch .0) x) here)
-    (m .normal .ensures))
+    (ap₂ (λ (b : Bool) (x : ℕ). b && leb (l .loop .fresh .epoch .0) x) (f .firm .ensures) here)
+    (ap₂ (λ (b c : Bool). b && c) (f .firm .ensures) (m .normal .ensures)))
 
 epoch-at-requires-2 : tie.Need-epoch-at-requires-2 Inv-loop μ-loop
 epoch-at-requires-2 c κs = search needs
@@ -135,12 +123,10 @@ tops-of-spec =
     loop-less-2
     loop-again-2
     firm-requires
-    loop-less-3
-    loop-again-3
     winner-requires
     winner-requires-2
-    loop-less-4
-    loop-again-4
+    loop-less-3
+    loop-again-3
     epoch-at-requires-2
     won-requires
     won-requires-2
