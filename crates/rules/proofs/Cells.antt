@@ -6,12 +6,12 @@ use mathlib.Core.Path.{_≡_, refl, sym, ap, _∙_}
 use native.Mathlib.Decide.{decLt, ℕ-discrete}
 use native.Mathlib.Nat.{not-suc-le-zero, le-of-suc-le-suc}
 use native.Mathlib.Omega.{arith}
-use borrow.Author.Tests.{ltb-true, ltb-false, lt-ltb, le-ltb}
+use borrow.Author.Tests.{ltb-true, ltb-false, lt-ltb}
 use lib.Dec.{ltb}
 use lib.ListN.{length, getD, set, replicate, length-set, length-replicate, getD-replicate}
 use lib.Seq.{ext-getD, getD-set-same, getD-set-other}
 use Rattle.table.specs.Scan.{pick}
-use Rattle.table.proofs.Laws.{same-test, pick-yes, pick-no, pick-case, row-in, row-past}
+use Rattle.table.proofs.Laws.{same-test, pick-yes, pick-case, row-in, row-past}
 use Rattle.rules.specs.Columns.{places, upTo, cell}
 
 -- ---- columns

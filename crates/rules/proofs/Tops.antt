@@ -11,7 +11,6 @@ use Rattle.table.specs.Scan.{pick}
 use Rattle.table.proofs.Laws.{pick-case, not-both}
 use Rattle.pala.proofs.Tests.{and-l, and-r, nand}
 use Rattle.rules.specs.declared.Top.{Top}
-use Rattle.rules.specs.declared.scans.Tops.{Tops}
 use Rattle.rules.specs.Columns.{firmBy, freshestBy, normalBy, freshestNormalBy}
 use Rattle.rules.specs.Standing.{topsBy}
 use Rattle.rules.proofs.Searches.{against, against-turn, joined-start, joined-passed, joined-end}

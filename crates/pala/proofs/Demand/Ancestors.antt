@@ -1,6 +1,6 @@
 -- A block's line down to the genesis, firmness along it, and in a grown table. Assumes nothing.
 use Prim.Native.Nat.{ℕ, zero, suc, _≤_, _<_}
-use mathlib.Core.Bool.{Bool, true, false, _&&_, _||_, true≢false}
+use mathlib.Core.Bool.{true, false, _&&_, _||_, true≢false}
 use mathlib.Core.List.{List, [], _∷_}
 use mathlib.Core.Logic.{_⊎_, inl, inr, ⊎-elim}
 use mathlib.Core.Path.{_≡_, refl, sym, ap, subst, _∙_}
@@ -9,7 +9,6 @@ use native.Mathlib.Omega.{arith}
 use lib.Dec.{eqb, leb}
 use borrow.Author.Tests.{eqb-true, eq-eqb, leb-true, le-leb}
 use Rattle.table.specs.declared.Block.{Block}
-use Rattle.table.specs.Scan.{pick}
 use Rattle.table.specs.Rows.{size, at, hasVoter, votes, mostNodes}
 use Rattle.table.proofs.Laws.{count-mono}
 use Rattle.pala.specs.Counts.{quorum}

@@ -10,7 +10,7 @@ use borrow.Author.Tests.{eqb-true, eq-eqb}
 use Rattle.table.specs.declared.Block.{Block}
 use Rattle.table.specs.Rows.{size}
 use Rattle.pala.specs.Rules.{epochAt, parentOf, firm, freshest, normal, freshestNormal, candidate}
-use Rattle.table.proofs.Laws.{highest-passes, highest-wins}
+use Rattle.table.proofs.Laws.{Wins, highest-passes, highest-wins}
 use Rattle.pala.proofs.Tests.{and-l, and-r, and-both}
 use Rattle.pala.proofs.Grown.{Grown, grown-parent, grown-epoch}
 use Rattle.pala.proofs.Places.{parent-below, parent-zero, freshest-in}
@@ -92,11 +92,16 @@ module _ (n : ℕ) (t : List Block) where
   unfolding normal
   normal-next p e = eqb-true (epochAt t p) (epochAt t (parentOf t p) + 1) (and-r (firm n t p) (normal t p) e)
 
+  -- ".. lowest place among equals"
+  normal-wins : (p : ℕ) → p < size t → both p ≡ true → Wins (epochAt t) top p
+  unfolding top freshestNormal
+  normal-wins p h o = highest-wins (size t) both _ p h o
+
   normal-best : (p : ℕ) → p < size t → firm n t p ≡ true → epochAt t p ≡ epochAt t (parentOf t p) + 1 → epochAt t p ≤ epochAt t top
-  unfolding top freshestNormal normal
+  unfolding normal
   normal-best p h f e =
-      let o : both p ≡ true = and-both (firm n t p) (normal t p) f (eq-eqb (epochAt t p) (epochAt t (parentOf t p) + 1) e) in
-      ⊎-elim (λ l. omega arith) (λ l. omega arith) (highest-wins (size t) both (λ p. epochAt t p) p h o)
+      ⊎-elim (λ l. omega arith) (λ l. omega arith)
+      (normal-wins p h (and-both (firm n t p) (normal t p) f (eq-eqb (epochAt t p) (epochAt t (parentOf t p) + 1) e)))
 
   candidate-next : epochAt t top ≤ epochAt t (candidate n t) + 1
   unfolding candidate top

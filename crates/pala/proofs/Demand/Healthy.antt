@@ -3,7 +3,6 @@ use Prim.Native.Nat.{ℕ, _<_}
 use mathlib.Core.Bool.{true}
 use mathlib.Core.List.{List, [], _∷_, _++_}
 use mathlib.Core.Path.{_≡_, sym, ap, subst, subst₂, _∙_}
-use native.Mathlib.Omega.{arith}
 use lib.ListN.{set}
 use Rattle.table.specs.declared.Block.{Block}
 use Rattle.table.specs.declared.State.{State}
@@ -15,7 +14,7 @@ use Rattle.pala.specs.Steps.{newKept, forward, settled}
 use Rattle.table.proofs.Laws.{pick-case}
 use Rattle.pala.proofs.Grown.{Grown}
 use Rattle.pala.proofs.Moves.{Did, added, counted, cast, clocked, Stepped, refused, took}
-use Rattle.pala.proofs.Keeps.{Proper, some-rows, rows-added, rows-voted, not-full, did-grows}
+use Rattle.pala.proofs.Keeps.{Proper, rows-added, rows-voted, not-full, did-grows}
 use Rattle.pala.proofs.Calls.{call-did, call-keeps}
 use Rattle.pala.proofs.Demand.Freshest.{Kept, grown-kept, candidate-kept}
 

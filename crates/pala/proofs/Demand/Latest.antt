@@ -15,7 +15,7 @@ use Rattle.pala.specs.Steps.{forward, newKept, newTorn, settled}
 use Rattle.pala.proofs.Tests.{nor-r}
 use Rattle.pala.proofs.Grown.{rows-settled}
 use Rattle.pala.proofs.Places.{parent-below, candidate-in}
-use Rattle.pala.proofs.Demand.Ancestors.{climb, down, on-zero, on-cases}
+use Rattle.pala.proofs.Demand.Ancestors.{down, on-zero, on-cases}
 use Rattle.pala.proofs.Demand.Freshest.{Kept, kept-in, candidate-latest}
 use Rattle.pala.proofs.Demand.Sound.{Sound, shaped-sound, parent-earlier}
 use Rattle.pala.proofs.Demand.Healthy.{KeptBy, did-kept}

@@ -1,6 +1,6 @@
 -- Its epoch and its parent's. Assumes nothing.
 use Prim.Native.Nat.{_+_}
-use mathlib.Core.Path.{_≡_, ap, _∙_}
+use mathlib.Core.Path.{ap, _∙_}
 use borrow.Author.Needs.{needs}
 use lib.Dec.{eqb}
 use Rattle.table.specs.declared.Epoch.{Epoch}
