@@ -14,6 +14,10 @@ use Rattle.rules.specs.Columns.{firmBy, openBy, votableBy}
 
 -- ---- the freshest: a scan downward, against the definition's direction
 
+-- the block at a place
+abbrev pub topAt : (ℕ → ℕ) → ℕ → Top
+topAt epoch p = record { place = record { 0 = p }; epoch = record { 0 = epoch p } }
+
 module _ (ok : ℕ → Bool) (rank : ℕ → ℕ) where
   -- the winner of the numbers below k and of those passed, of which `best`, of rank `top`, has won
   unfoldable pub joined : ℕ → ℕ → ℕ → ℕ
@@ -63,7 +67,7 @@ module _ (ok : ℕ → Bool) (rank : ℕ → ℕ) where
     pub joined-passed : (ok (k - 1) ≡ true → rank (k - 1) < top) → joined k best top ≡ joined (k - 1) best top
     joined-passed h = ap (λ (j : ℕ). joined j best top) (omega arith) ∙ passed (k - 1) best top h
 
-    pub joined-taken : ok (k - 1) ≡ true → top ≤ rank (k - 1) → joined k best top ≡ joined (k - 1) (k - 1) (rank (k - 1))
+    joined-taken : ok (k - 1) ≡ true → top ≤ rank (k - 1) → joined k best top ≡ joined (k - 1) (k - 1) (rank (k - 1))
     joined-taken y h = ap (λ (j : ℕ). joined j best top) (omega arith) ∙ taken (k - 1) best top y h
 
   -- what is left below k, and the best of what was passed
@@ -71,7 +75,7 @@ module _ (ok : ℕ → Bool) (rank : ℕ → ℕ) where
   against k best = joined k (best .place .0) (best .epoch .0)
 
   -- a turn that asks both: the block at k - 1 wins, or what was best stays
-  pub against-turn : (k : ℕ) (here best : Top) (wins : Bool) → 1 < k → here ≡ record { place = record { 0 = k - 1 }; epoch = record { 0 = rank (k - 1) } }
+  pub against-turn : (k : ℕ) (here best : Top) (wins : Bool) → 1 < k → here ≡ topAt rank (k - 1)
       → (wins ≡ true → (ok (k - 1) ≡ true) × (best .epoch .0 ≤ rank (k - 1)))
       → (wins ≡ false → ok (k - 1) ≡ true → rank (k - 1) < best .epoch .0)
       → against k best ≡ against (k - 1) (pick wins here best)

@@ -13,15 +13,11 @@ use Rattle.pala.proofs.Tests.{and-l, and-r, nand}
 use Rattle.rules.specs.declared.Top.{Top}
 use Rattle.rules.specs.Columns.{firmBy, freshestBy, normalBy, freshestNormalBy}
 use Rattle.rules.specs.Standing.{topsBy}
-use Rattle.rules.proofs.Searches.{against, against-turn, joined-start, joined-passed, joined-end}
+use Rattle.rules.proofs.Searches.{topAt, against, against-turn, joined-start, joined-passed, joined-end}
 
 -- nothing has won
 abbrev pub none : Top
 none = record { place = record { 0 = 0 }; epoch = record { 0 = 0 } }
-
--- the block at a place
-abbrev pub topAt : (ℕ → ℕ) → ℕ → Top
-topAt epoch p = record { place = record { 0 = p }; epoch = record { 0 = epoch p } }
 
 -- what won, or the genesis where it isn't above its epoch
 abbrev pub wonBy : ℕ → Top → ℕ

@@ -18,6 +18,7 @@ topsBy k up epoch mark =
       normal = record { 0 = freshestNormalBy k up epoch mark };
     }
 
+-- steps 2, 3 and 5, over no more places than the columns have
 unfoldable pub standingBy : Columns → List Epoch → ℕ → ℕ → ℕ → Standing
 unfolding topsBy lower fall among agreed
 standingBy c clocks n local kept =

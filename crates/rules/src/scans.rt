@@ -44,7 +44,7 @@ fn won(root: Epoch, best: Top) -> Place
     Place(0)
 }
 
-// So many places of a column as it has, or as are asked for.
+// As many places as are asked for, and no more than the columns have.
 fn within(size: u32) -> u32
     ensures { λ r. ⌜ r ≡ min size places ⌝ }
 {
@@ -75,6 +75,7 @@ pub fn tops_of<'a>(
             place: Place(k),
             epoch: epoch_at(epochs, Place(k)),
         };
+        // What is earlier than the last normal block is earlier than the freshest too.
         if here.epoch.0 < last.epoch.0 {
             continue;
         }
