@@ -10,13 +10,13 @@ use lib.ListN.{length, take, drop, take-append-drop}
 use lib.Seq.{take-append_seam}
 use Rattle.table.specs.Scan.{all_below}
 use Rattle.table.specs.Bytes.{same}
-use Rattle.table.proofs.Laws.{same_refl, same_true, allBelow-at, allBelow-all}
+use Rattle.table.proofs.Laws.{same_refl, same_true, all_below-at, all_below-all}
 use Rattle.pala.specs.Safety.{Begins, OneBegins}
 use Rattle.pala.proofs.Shapes as Shapes
 use Rattle.pala.proofs.Tests.{and_l, and_r, and_both, or_l, or_r, or_cases, either}
 use Rattle.accord.specs.declared.Hall.{Hall}
-use Rattle.accord.specs.Head.{mostGateways, honestIn}
-use Rattle.accord.specs.Words.{list_of, begins, oneBegins, agree}
+use Rattle.accord.specs.Head.{most_gateways, honest_in}
+use Rattle.accord.specs.Words.{list_of, begins, one_begins, agree}
 use Rattle.accord.specs.NeverNo.{YesMeans}
 
 -- ---- one begins the other
@@ -31,16 +31,16 @@ unfolding begins
 rest-begins a b (rest, e) =
     ap (same a) (ap (take (length a)) (sym e) ∙ take-append_seam a rest) ∙ same_refl a
 
-one-begins : (a b : List ℕ) → oneBegins a b ≡ true → OneBegins a b
-unfolding oneBegins
+one-begins : (a b : List ℕ) → one_begins a b ≡ true → OneBegins a b
+unfolding one_begins
 one-begins a b h = go (or_cases (begins a b) (begins b a) h)
   where
     go : (begins a b ≡ true) ⊎ (begins b a ≡ true) → OneBegins a b
     go (inl e) = inl (begins-rest a b e)
     go (inr e) = inr (begins-rest b a e)
 
-begins-one : (a b : List ℕ) → OneBegins a b → oneBegins a b ≡ true
-unfolding oneBegins
+begins-one : (a b : List ℕ) → OneBegins a b → one_begins a b ≡ true
+unfolding one_begins
 begins-one a b (inl w) = or_l (begins a b) (begins b a) (rest-begins a b w)
 begins-one a b (inr w) = or_r (begins a b) (begins b a) (rest-begins b a w)
 
@@ -52,23 +52,23 @@ turned (inr w) = inl w
 
 module _ (h : Hall) where
   both : ℕ → ℕ → Bool
-  both i j = honestIn h i && honestIn h j
+  both i j = honest_in h i && honest_in h j
 
   fits : ℕ → ℕ → Bool
-  fits i j = oneBegins (list_of h i) (list_of h j)
+  fits i j = one_begins (list_of h i) (list_of h j)
 
   -- a pair in which the second number is lower
-  agree-pair : agree h ≡ true → (i j : ℕ) → i < mostGateways → j < i → honestIn h i ≡ true → honestIn h j ≡ true → OneBegins (list_of h i) (list_of h j)
+  agree-pair : agree h ≡ true → (i j : ℕ) → i < most_gateways → j < i → honest_in h i ≡ true → honest_in h j ≡ true → OneBegins (list_of h i) (list_of h j)
   unfolding agree both fits
   agree-pair e i j l m hi hj =
       one-begins (list_of h i) (list_of h j)
       (Shapes.or_r (not (both i j)) (fits i j)
-      (allBelow-at i (λ b. not (both i b) || fits i b)
-      (allBelow-at mostGateways (λ a. all_below a (λ b. not (both a b) || fits a b)) e i l) j m)
-      (ap not (and_both (honestIn h i) (honestIn h j) hi hj)))
+      (all_below-at i (λ b. not (both i b) || fits i b)
+      (all_below-at most_gateways (λ a. all_below a (λ b. not (both a b) || fits a b)) e i l) j m)
+      (ap not (and_both (honest_in h i) (honest_in h j) hi hj)))
 
   pub agree-any : agree h ≡ true
-      → (i j : ℕ) → i < mostGateways → j < mostGateways → honestIn h i ≡ true → honestIn h j ≡ true → OneBegins (list_of h i) (list_of h j)
+      → (i j : ℕ) → i < most_gateways → j < most_gateways → honest_in h i ≡ true → honest_in h j ≡ true → OneBegins (list_of h i) (list_of h j)
   agree-any e i j l m hi hj =
       elim (dec_lt j i) [
         | yes b ↦ agree-pair e i j l b hi hj
@@ -80,18 +80,18 @@ module _ (h : Hall) where
       ]
 
   pub any-agree :
-      ((i j : ℕ) → i < mostGateways → j < mostGateways → honestIn h i ≡ true → honestIn h j ≡ true → OneBegins (list_of h i) (list_of h j))
+      ((i j : ℕ) → i < most_gateways → j < most_gateways → honest_in h i ≡ true → honest_in h j ≡ true → OneBegins (list_of h i) (list_of h j))
       → agree h ≡ true
   unfolding agree both fits
   any-agree w =
-      allBelow-all mostGateways (λ i. all_below i (λ j. not (both i j) || fits i j))
-      (λ i l. allBelow-all i (λ j. not (both i j) || fits i j) (λ j m. go i j l m (either (both i j))))
+      all_below-all most_gateways (λ i. all_below i (λ j. not (both i j) || fits i j))
+      (λ i l. all_below-all i (λ j. not (both i j) || fits i j) (λ j m. go i j l m (either (both i j))))
     where
-      go : (i j : ℕ) → i < mostGateways → j < i → (both i j ≡ true) ⊎ (both i j ≡ false) → (not (both i j) || fits i j) ≡ true
+      go : (i j : ℕ) → i < most_gateways → j < i → (both i j ≡ true) ⊎ (both i j ≡ false) → (not (both i j) || fits i j) ≡ true
       go i j l m (inl e) =
           or_r (not (both i j)) (fits i j)
           (begins-one (list_of h i) (list_of h j)
-          (w i j l (omega arith) (and_l (honestIn h i) (honestIn h j) e) (and_r (honestIn h i) (honestIn h j) e)))
+          (w i j l (omega arith) (and_l (honest_in h i) (honest_in h j) e) (and_r (honest_in h i) (honest_in h j) e)))
       go i j l m (inr e) = or_l (not (both i j)) (fits i j) (ap not e)
 
 pub yes-means : YesMeans

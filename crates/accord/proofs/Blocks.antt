@@ -10,9 +10,9 @@ use Rattle.table.specs.declared.Block.{Block}
 use Rattle.table.specs.declared.State.{State}
 use Rattle.table.specs.Rows.{rows, size, at, find}
 use Rattle.table.proofs.Laws.{pick_yes, pick_no}
-use Rattle.pala.specs.Effects.{newBlock, withBlock, proposalEffect, proposeEffect, effect}
-use Rattle.pala.specs.Record.{epochOf, name_of, parentNameOf, payloadOf, is, proposalHeard, voteHeard, clockHeard, proposeNow}
-use Rattle.pala.specs.Rules.{epochAt, parent_of, freshest}
+use Rattle.pala.specs.Effects.{new_block, with_block, proposal_effect, propose_effect, effect}
+use Rattle.pala.specs.Record.{epoch_of, name_of, parent_name_of, payload_of, is, proposal_heard, vote_heard, clock_heard, propose_now}
+use Rattle.pala.specs.Rules.{epoch_at, parent_of, freshest}
 use Rattle.pala.specs.Safety.{Held, Book, Fits}
 use Rattle.pala.specs.Steps.{settled}
 use Rattle.pala.proofs.Grown.{Grown, grown-parent, grown-epoch, size-append, at-append, at_last, rows_settled}
@@ -20,7 +20,7 @@ use Rattle.pala.proofs.Keeps.{Proper, size-proper, rows-added}
 use Rattle.pala.proofs.Moves.{other-kind}
 use Rattle.pala.proofs.Places.{find-named, parent-below, parent_is}
 use Rattle.pala.proofs.Shapes.{block-parent, shaped-count, shaped-block}
-use Rattle.accord.specs.Rulings.{Content, contentOf}
+use Rattle.accord.specs.Rulings.{Content, content_of}
 
 -- what demand 3's book has under a name
 abbrev pub Entry : Type 0
@@ -30,7 +30,7 @@ Entry = record { epoch : ℕ; parent : List ℕ }
 pub record Stands (t : List Block) (p : ℕ) (x : List ℕ) (c : Entry) : Type 0 where
   pub held : Held t p
   pub named : (at t p).name ≡ x
-  pub epoch : epochAt t p ≡ c.epoch
+  pub epoch : epoch_at t p ≡ c.epoch
   pub parent : (at t (parent_of t p)).name ≡ c.parent
 
 -- a place has one entry
@@ -81,25 +81,25 @@ entry c = record { epoch = c.epoch; parent = c.parent }
 
 -- kinds 1 and 4
 abbrev pub Adds : List ℕ → Type 0
-Adds r = (is proposalHeard r ≡ true) ⊎ (is proposeNow r ≡ true)
+Adds r = (is proposal_heard r ≡ true) ⊎ (is propose_now r ≡ true)
 
 module _ (s : State) (r : List ℕ) where
-  effect-heard : is proposalHeard r ≡ true → effect s r ≡ proposalEffect s r
+  effect-heard : is proposal_heard r ≡ true → effect s r ≡ proposal_effect s r
   unfolding effect
-  effect-heard k = pick_yes (is proposalHeard r) _ _ k
+  effect-heard k = pick_yes (is proposal_heard r) _ _ k
 
-  effect-now : is proposeNow r ≡ true → effect s r ≡ proposeEffect s r
+  effect-now : is propose_now r ≡ true → effect s r ≡ propose_effect s r
   unfolding effect
   effect-now k =
-      pick_no (is proposalHeard r) _ _ (other-kind r proposeNow proposalHeard k refl)
-      ∙ pick_no (is voteHeard r) _ _ (other-kind r proposeNow voteHeard k refl)
-      ∙ pick_no (is clockHeard r) _ _ (other-kind r proposeNow clockHeard k refl)
-      ∙ pick_yes (is proposeNow r) _ _ k
+      pick_no (is proposal_heard r) _ _ (other-kind r propose_now proposal_heard k refl)
+      ∙ pick_no (is vote_heard r) _ _ (other-kind r propose_now vote_heard k refl)
+      ∙ pick_no (is clock_heard r) _ _ (other-kind r propose_now clock_heard k refl)
+      ∙ pick_yes (is propose_now r) _ _ k
 
 -- a block added stands at the last place, on the row that it names as its parent
-module _ {s u : State} (k : Proper s) (after : Proper (settled u)) (b : Block) (proposed : ℕ) (e : u ≡ withBlock s b proposed) where
+module _ {s u : State} (k : Proper s) (after : Proper (settled u)) (b : Block) (proposed : ℕ) (e : u ≡ with_block s b proposed) where
   count-is : u.count ≡ suc s.count
-  unfolding withBlock
+  unfolding with_block
   count-is = ap (λ (x : State). x.count) e
 
   place_is : u.count ≡ size (rows s)
@@ -124,7 +124,7 @@ module _ {s u : State} (k : Proper s) (after : Proper (settled u)) (b : Block) (
   lower = omega (arith, up_is, ap (λ (x : Block). x.parent.0) row_is, place_is)
 
   pub added-stands : Stands (rows u) u.count b.name (record { epoch = b.epoch.0; parent = (at (rows s) b.parent.0).name })
-  unfolding epochAt
+  unfolding epoch_at
   added-stands =
       record {
         held = (omega (arith, count-is), omega (arith, ap length rows_are, size-append (rows s) b, place_is));
@@ -138,20 +138,20 @@ module _ {s u : State} (k : Proper s) (after : Proper (settled u)) (b : Block) (
 
 -- a block that a record adds is what the record says
 pub new-stands : {s : State} → Proper s → (r : List ℕ) → Proper (settled (effect s r)) → Adds r
-    → Stands (rows (effect s r)) (effect s r).count (name_of r) (entry (contentOf s r))
-unfolding proposalEffect proposeEffect newBlock contentOf
+    → Stands (rows (effect s r)) (effect s r).count (name_of r) (entry (content_of s r))
+unfolding proposal_effect propose_effect new_block content_of
 new-stands {s} k r after (inl kind) =
     subst (Stands (rows (effect s r)) (effect s r).count (name_of r))
-    (ap (λ x. record { epoch = epochOf r; parent = x }) (find-named (rows s) (parentNameOf r) (lower k after b s.proposed.0 (effect-heard s r kind)))
-    ∙ ap entry (sym (pick_yes (is proposalHeard r) _ _ kind)))
+    (ap (λ x. record { epoch = epoch_of r; parent = x }) (find-named (rows s) (parent_name_of r) (lower k after b s.proposed.0 (effect-heard s r kind)))
+    ∙ ap entry (sym (pick_yes (is proposal_heard r) _ _ kind)))
     (added-stands k after b s.proposed.0 (effect-heard s r kind))
   where
     b : Block
-    b = newBlock (name_of r) (epochOf r) (find (rows s) (parentNameOf r)) (payloadOf r)
+    b = new_block (name_of r) (epoch_of r) (find (rows s) (parent_name_of r)) (payload_of r)
 new-stands {s} k r after (inr kind) =
     subst (Stands (rows (effect s r)) (effect s r).count (name_of r))
-    (ap entry (sym (pick_no (is proposalHeard r) _ _ (other-kind r proposeNow proposalHeard kind refl))))
+    (ap entry (sym (pick_no (is proposal_heard r) _ _ (other-kind r propose_now proposal_heard kind refl))))
     (added-stands k after b s.local.0 (effect-now s r kind))
   where
     b : Block
-    b = newBlock (name_of r) s.local.0 (freshest s.n (rows s)) (payloadOf r)
+    b = new_block (name_of r) s.local.0 (freshest s.n (rows s)) (payload_of r)

@@ -12,38 +12,38 @@ use lib.Seq.{get_or-set_same, get_or-set_other}
 use borrow.Author.Tests.{leb-true, ltb-true, eqb-true, not-true, not-false}
 use Rattle.table.specs.declared.State.{State}
 use Rattle.table.specs.Scan.{pick, all_below}
-use Rattle.table.specs.Rows.{allZero}
-use Rattle.table.proofs.Laws.{not-both, pick_yes, pick_no, get_d_any, allBelow-at}
+use Rattle.table.specs.Rows.{all_zero}
+use Rattle.table.proofs.Laws.{not-both, pick_yes, pick_no, get_d_any, all_below-at}
 use Rattle.pala.specs.Answers.{taken}
-use Rattle.pala.specs.Record.{recordBytes}
+use Rattle.pala.specs.Record.{record_bytes}
 use Rattle.pala.specs.Run.{lent}
 use Rattle.pala.specs.Step.{step, start}
 use Rattle.pala.proofs.Tests.{and_l, and_r, or_cases}
 use Rattle.accord.specs.declared.Hall.{Hall}
 use Rattle.accord.specs.declared.Verdict.{Verdict}
-use Rattle.accord.specs.Head.{mostGateways, gateways, nodesOf, in_set, goodHead, freshHall, gateway, honestIn}
-use Rattle.accord.specs.Rulings.{forged, clash, verdict, verdictNumber, passes, seated, hallAfter}
+use Rattle.accord.specs.Head.{most_gateways, gateways, nodes_of, in_set, good_head, fresh_hall, gateway, honest_in}
+use Rattle.accord.specs.Rulings.{forged, clash, verdict, verdict_number, passes, seated, hall_after}
 
 -- ---- the head
 
 pub record Head (bytes : List ℕ) : Type 0 where
-  pub some : 1 ≤ nodesOf bytes
-  pub most : nodesOf bytes ≤ mostGateways
-  pub inside : (i : ℕ) → i < mostGateways → in_set bytes i ≡ true → i < nodesOf bytes
+  pub some : 1 ≤ nodes_of bytes
+  pub most : nodes_of bytes ≤ most_gateways
+  pub inside : (i : ℕ) → i < most_gateways → in_set bytes i ≡ true → i < nodes_of bytes
 
-pub good-head : (bytes : List ℕ) → goodHead bytes ≡ true → Head bytes
-unfolding goodHead
+pub good-head : (bytes : List ℕ) → good_head bytes ≡ true → Head bytes
+unfolding good_head
 good-head [] h = absurd (not-both h refl)
 good-head (n ∷ []) h = absurd (not-both h refl)
 good-head (n ∷ set ∷ more) h =
-    let bits = all_below mostGateways (λ i. ltb i n || not (in_set (n ∷ set ∷ more) i)) in
+    let bits = all_below most_gateways (λ i. ltb i n || not (in_set (n ∷ set ∷ more) i)) in
     let a : leb 1 n ≡ true = search (and_l, and_r) in
-    let b : leb n mostGateways ≡ true = search (and_l, and_r) in
+    let b : leb n most_gateways ≡ true = search (and_l, and_r) in
     let c : bits ≡ true = search (and_l, and_r) in
     record {
       some = leb-true 1 n a;
-      most = leb-true n mostGateways b;
-      inside = λ i l k. go i k (or_cases (ltb i n) (not (in_set (n ∷ set ∷ more) i)) (allBelow-at mostGateways (λ j. ltb j n || not (in_set (n ∷ set ∷ more) j)) c i l));
+      most = leb-true n most_gateways b;
+      inside = λ i l k. go i k (or_cases (ltb i n) (not (in_set (n ∷ set ∷ more) i)) (all_below-at most_gateways (λ j. ltb j n || not (in_set (n ∷ set ∷ more) j)) c i l));
     }
   where
     go : (i : ℕ) → in_set (n ∷ set ∷ more) i ≡ true → (ltb i n ≡ true) ⊎ (not (in_set (n ∷ set ∷ more) i) ≡ true) → i < n
@@ -53,27 +53,27 @@ good-head (n ∷ set ∷ more) h =
 -- ---- a fresh hall
 
 -- what a list of something for each number has at a number
-for-each : {A : Type 0} (f : ℕ → A) (d : A) (i : ℕ) → i < mostGateways → get_or (map f gateways) i d ≡ f i
+for-each : {A : Type 0} (f : ℕ → A) (d : A) (i : ℕ) → i < most_gateways → get_or (map f gateways) i d ≡ f i
 unfolding all_below
 for-each f d i h =
     get_d_any (map f gateways) i d (f 0) h
     ∙ get_or-map f gateways i 0
-    ∙ ap f (eqb-true (get_or gateways i 0) i (allBelow-at mostGateways (λ j. eqb (get_or gateways j 0) j) refl i h))
+    ∙ ap f (eqb-true (get_or gateways i 0) i (all_below-at most_gateways (λ j. eqb (get_or gateways j 0) j) refl i h))
 
 module _ (bytes : List ℕ) where
-  pub fresh-gateway : (i : ℕ) → i < mostGateways → gateway (freshHall bytes) i ≡ (start (nodesOf bytes) i).state
-  unfolding gateway freshHall
-  fresh-gateway i h = for-each (λ j. (start (nodesOf bytes) j).state) allZero i h
+  pub fresh-gateway : (i : ℕ) → i < most_gateways → gateway (fresh_hall bytes) i ≡ (start (nodes_of bytes) i).state
+  unfolding gateway fresh_hall
+  fresh-gateway i h = for-each (λ j. (start (nodes_of bytes) j).state) all_zero i h
 
-  pub fresh-honest : (i : ℕ) → i < mostGateways → honestIn (freshHall bytes) i ≡ in_set bytes i
-  unfolding honestIn freshHall
+  pub fresh-honest : (i : ℕ) → i < most_gateways → honest_in (fresh_hall bytes) i ≡ in_set bytes i
+  unfolding honest_in fresh_hall
   fresh-honest i h = for-each (in_set bytes) false i h
 
 -- nobody is honest past the last number
-pub honest-below : (h : Hall) (i : ℕ) → length h.honest ≡ mostGateways → honestIn h i ≡ true → i < mostGateways
-unfolding honestIn
+pub honest-below : (h : Hall) (i : ℕ) → length h.honest ≡ most_gateways → honest_in h i ≡ true → i < most_gateways
+unfolding honest_in
 honest-below h i e k =
-    elim (dec_lt i mostGateways) [
+    elim (dec_lt i most_gateways) [
       | yes l ↦ l
       | no l ↦ absurd (not-both k (get_or-eq_default h.honest false (omega arith)))
     ]
@@ -82,9 +82,9 @@ honest-below h i e k =
 
 -- the tests that it passed
 pub record Allowed (h : Hall) (to : ℕ) (r : List ℕ) : Type 0 where
-  pub honest : honestIn h to ≡ true
-  pub genuine : (eqb (length r) recordBytes && forged h r) ≡ false
-  pub single : (eqb (length r) recordBytes && clash h (gateway h to) r) ≡ false
+  pub honest : honest_in h to ≡ true
+  pub genuine : (eqb (length r) record_bytes && forged h r) ≡ false
+  pub single : (eqb (length r) record_bytes && clash h (gateway h to) r) ≡ false
   pub answered : taken (step (gateway h to) r lent).answer ≡ true
 
 past : (b : Bool) (v w : Verdict) → passes v ≡ false → passes (pick b v w) ≡ true → (b ≡ false) × (passes w ≡ true)
@@ -93,30 +93,30 @@ past true v w f k = absurd (not-both k f)
 past false v w f k = (refl, k)
 
 pub allowed : (h : Hall) (to : ℕ) (r : List ℕ) → passes (verdict h to r) ≡ true → Allowed h to r
-unfolding verdict passes verdictNumber taken
+unfolding verdict passes verdict_number taken
 allowed h to r k =
-    let a = past (not (honestIn h to)) Verdict.Receiver _ refl k in
-    let b = past (eqb (length r) recordBytes && forged h r) Verdict.Forged _ refl a.1 in
-    let c = past (eqb (length r) recordBytes && clash h (gateway h to) r) Verdict.Clash _ refl b.1 in
-    record { honest = not-false (honestIn h to) a.0; genuine = b.0; single = c.0; answered = c.1 }
+    let a = past (not (honest_in h to)) Verdict.Receiver _ refl k in
+    let b = past (eqb (length r) record_bytes && forged h r) Verdict.Forged _ refl a.1 in
+    let c = past (eqb (length r) record_bytes && clash h (gateway h to) r) Verdict.Clash _ refl b.1 in
+    record { honest = not-false (honest_in h to) a.0; genuine = b.0; single = c.0; answered = c.1 }
 
 -- ---- the hall after a record
 
 module _ (h : Hall) (to : ℕ) (r : List ℕ) where
-  pub hall-moves : passes (verdict h to r) ≡ true → hallAfter h to r ≡ seated h to (step (gateway h to) r lent).state
-  unfolding hallAfter
+  pub hall-moves : passes (verdict h to r) ≡ true → hall_after h to r ≡ seated h to (step (gateway h to) r lent).state
+  unfolding hall_after
   hall-moves = pick_yes (passes (verdict h to r)) (seated h to (step (gateway h to) r lent).state) h
 
-  pub hall-stays : passes (verdict h to r) ≡ false → hallAfter h to r ≡ h
-  unfolding hallAfter
+  pub hall-stays : passes (verdict h to r) ≡ false → hall_after h to r ≡ h
+  unfolding hall_after
   hall-stays = pick_no (passes (verdict h to r)) (seated h to (step (gateway h to) r lent).state) h
 
 -- one gateway's state is another, and those of the others are as they were
 module _ (h : Hall) (i : ℕ) (s : State) where
   pub seated-same : i < length h.states → gateway (seated h i s) i ≡ s
   unfolding gateway seated
-  seated-same l = get_or-set_same h.states i s allZero l
+  seated-same l = get_or-set_same h.states i s all_zero l
 
   pub seated-other : (j : ℕ) → j ≢ i → gateway (seated h i s) j ≡ gateway h j
   unfolding gateway seated
-  seated-other j d = get_or-set_other h.states i j s allZero d
+  seated-other j d = get_or-set_other h.states i j s all_zero d

@@ -12,12 +12,12 @@ use Rattle.table.specs.Scan.{lowest}
 use Rattle.table.specs.Bytes.{same}
 use Rattle.table.specs.Rows.{size, at}
 use Rattle.table.proofs.Laws.{lowest-hit, same_refl, same_true}
-use Rattle.pala.specs.Record.{name_of, is, proposalHeard, proposeNow}
+use Rattle.pala.specs.Record.{name_of, is, proposal_heard, propose_now}
 use Rattle.pala.specs.Safety.{Honest, Book}
 use Rattle.pala.proofs.Tests.{and_l, and_r, and_both, nand, or_l, or_r}
 use Rattle.accord.specs.declared.Hall.{Hall}
-use Rattle.accord.specs.Head.{mostGateways, honestIn}
-use Rattle.accord.specs.Rulings.{table_of, named, Content, alike, contentAt, contentOf, otherwise, clash}
+use Rattle.accord.specs.Head.{most_gateways, honest_in}
+use Rattle.accord.specs.Rulings.{table_of, named, Content, alike, content_at, content_of, otherwise, clash}
 use Rattle.accord.proofs.Scans.{any_none, lowest-within}
 use Rattle.accord.proofs.Blocks.{Entry, Stands, entry, Adds, stands_one}
 
@@ -34,8 +34,8 @@ alike-entry c d h =
 
 -- a block that stands at a place is named there, and what is named there stands there
 module _ {t : List Block} {x : List ℕ} where
-  pub named-stands : (p : ℕ) → p < size t → named t x p ≡ true → Stands t p x (entry (contentAt t p))
-  unfolding named contentAt
+  pub named-stands : (p : ℕ) → p < size t → named t x p ≡ true → Stands t p x (entry (content_at t p))
+  unfolding named content_at
   named-stands p l h =
       record {
         held = (ltb-true 0 p (and_l (ltb 0 p) (same (at t p).name x) h), l);
@@ -50,31 +50,31 @@ module _ {t : List Block} {x : List ℕ} where
       and_both (ltb 0 p) (same (at t p).name x) (lt-ltb 0 p v.held.0) (ap (λ y. same y x) v.named ∙ same_refl x)
 
 -- every honest table that has the record's name has it as the record has it
-pub clash-none : (h : Hall) (s : State) (r : List ℕ) → clash h s r ≡ false → Adds r → (i : ℕ) → i < mostGateways → honestIn h i ≡ true
-    → (p : ℕ) (c : Entry) → Stands (table_of h i) p (name_of r) c → c ≡ entry (contentOf s r)
+pub clash-none : (h : Hall) (s : State) (r : List ℕ) → clash h s r ≡ false → Adds r → (i : ℕ) → i < most_gateways → honest_in h i ≡ true
+    → (p : ℕ) (c : Entry) → Stands (table_of h i) p (name_of r) c → c ≡ entry (content_of s r)
 unfolding clash otherwise
 clash-none h s r e adds i l hi p c v =
-    (stands_one v (named-stands p v.held.1 (stands-named v))).1 ∙ alike-entry (contentAt t p) (contentOf s r) like
+    (stands_one v (named-stands p v.held.1 (stands-named v))).1 ∙ alike-entry (content_at t p) (content_of s r) like
   where
     t : List Block
     t = table_of h i
 
-    kinds : Adds r → (is proposalHeard r || is proposeNow r) ≡ true
-    kinds (inl k) = or_l (is proposalHeard r) (is proposeNow r) k
-    kinds (inr k) = or_r (is proposalHeard r) (is proposeNow r) k
+    kinds : Adds r → (is proposal_heard r || is propose_now r) ≡ true
+    kinds (inl k) = or_l (is proposal_heard r) (is propose_now r) k
+    kinds (inr k) = or_r (is proposal_heard r) (is propose_now r) k
 
-    none_here : otherwise t (name_of r) (contentOf s r) ≡ false
+    none_here : otherwise t (name_of r) (content_of s r) ≡ false
     none_here =
-        nand (honestIn h i) (otherwise t (name_of r) (contentOf s r))
-        (any_none mostGateways (λ j. honestIn h j && otherwise (table_of h j) (name_of r) (contentOf s r))
-        (nand (is proposalHeard r || is proposeNow r) _ e (kinds adds)) i l)
+        nand (honest_in h i) (otherwise t (name_of r) (content_of s r))
+        (any_none most_gateways (λ j. honest_in h j && otherwise (table_of h j) (name_of r) (content_of s r))
+        (nand (is proposal_heard r || is propose_now r) _ e (kinds adds)) i l)
         hi
 
-    like : alike (contentAt t p) (contentOf s r) ≡ true
+    like : alike (content_at t p) (content_of s r) ≡ true
     like =
-        not-false (alike (contentAt t p) (contentOf s r))
-        (nand (named t (name_of r) p) (not (alike (contentAt t p) (contentOf s r)))
-        (any_none (size t) (λ q. named t (name_of r) q && not (alike (contentAt t q) (contentOf s r))) none_here p v.held.1)
+        not-false (alike (content_at t p) (content_of s r))
+        (nand (named t (name_of r) p) (not (alike (content_at t p) (content_of s r)))
+        (any_none (size t) (λ q. named t (name_of r) q && not (alike (content_at t q) (content_of s r))) none_here p v.held.1)
         (stands-named v))
 
 -- ---- a book of some tables
@@ -83,14 +83,14 @@ clash-none h s r e adds i l hi p c v =
 abbrev place_in : List Block → List ℕ → ℕ
 place_in t x = lowest (size t) (named t x)
 
-abbrev seatOf : ℕ → (ℕ → Bool) → (ℕ → List Block) → List ℕ → ℕ
-seatOf n honest tables x = lowest n (λ i. honest i && ltb (place_in (tables i) x) (size (tables i)))
+abbrev seat_of : ℕ → (ℕ → Bool) → (ℕ → List Block) → List ℕ → ℕ
+seat_of n honest tables x = lowest n (λ i. honest i && ltb (place_in (tables i) x) (size (tables i)))
 
-unfoldable pub bookOf : ℕ → (ℕ → Bool) → (ℕ → List Block) → Book
-unfolding contentAt
-bookOf n honest tables x =
-    let t : List Block = tables (seatOf n honest tables x) in
-    entry (contentAt t (place_in t x))
+unfoldable pub book_of : ℕ → (ℕ → Bool) → (ℕ → List Block) → Book
+unfolding content_at
+book_of n honest tables x =
+    let t : List Block = tables (seat_of n honest tables x) in
+    entry (content_at t (place_in t x))
 
 -- honest tables agree about a name
 abbrev pub OneEntry : ℕ → (ℕ → Bool) → (ℕ → List Block) → Type 0
@@ -98,8 +98,8 @@ OneEntry n honest tables =
     (i j p q : ℕ) (x : List ℕ) (c d : Entry) → Honest n honest i → Honest n honest j → Stands (tables i) p x c → Stands (tables j) q x d → c ≡ d
 
 pub book-is : (n : ℕ) (honest : ℕ → Bool) (tables : ℕ → List Block) → OneEntry n honest tables
-    → (i p : ℕ) (x : List ℕ) (c : Entry) → Honest n honest i → Stands (tables i) p x c → bookOf n honest tables x ≡ c
-unfolding bookOf
+    → (i p : ℕ) (x : List ℕ) (c : Entry) → Honest n honest i → Stands (tables i) p x c → book_of n honest tables x ≡ c
+unfolding book_of
 book-is n honest tables one i p x c hi v =
     one j i (place_in (tables j) x) p x _ c (inside, and_l (honest j) (has j) found) hi
     (named-stands (place_in (tables j) x) at_j (lowest-hit (size (tables j)) (named (tables j) x) at_j)) v
@@ -108,7 +108,7 @@ book-is n honest tables one i p x c hi v =
     has a = ltb (place_in (tables a) x) (size (tables a))
 
     j : ℕ
-    j = seatOf n honest tables x
+    j = seat_of n honest tables x
 
     inside : j < n
     inside =

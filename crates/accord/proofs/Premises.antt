@@ -11,12 +11,12 @@ use borrow.Author.Tests.{eq-eqb, not-false}
 use Rattle.table.specs.declared.Block.{Block}
 use Rattle.table.specs.declared.State.{State}
 use Rattle.table.specs.Bytes.{same}
-use Rattle.table.specs.Rows.{mostNodes, rows, size, at, hasVoter}
+use Rattle.table.specs.Rows.{most_nodes, rows, size, at, has_voter}
 use Rattle.table.proofs.Laws.{not-both}
 use Rattle.pala.specs.Answers.{number, taken}
-use Rattle.pala.specs.Record.{recordBytes, kind_of, senderOf, name_of, is, proposalHeard, voteHeard, proposeNow}
+use Rattle.pala.specs.Record.{record_bytes, kind_of, sender_of, name_of, is, proposal_heard, vote_heard, propose_now}
 use Rattle.pala.specs.Run.{lent}
-use Rattle.pala.specs.Safety.{Run, eventAt, stateAt, table_at, outcomeAt, Honest, Cast, Held, Book, Fits}
+use Rattle.pala.specs.Safety.{Run, event_at, state_at, table_at, outcome_at, Honest, Cast, Held, Book, Fits}
 use Rattle.pala.specs.Events.{EachTaken}
 use Rattle.pala.specs.Step.{step, room}
 use Rattle.pala.specs.Steps.{settled}
@@ -28,67 +28,67 @@ use Rattle.pala.proofs.Calls.{call-did}
 use Rattle.pala.proofs.Demand.Changes.{new-place}
 use Rattle.pala.proofs.Demand.Healthy.{did-grown}
 use Rattle.pala.proofs.Demand.OwnVotes.{own-votes}
-use Rattle.pala.proofs.Demand.Runs.{call_at, effectAt, fresh-none, Moved, Next, stayed, moved, next, starts, reached, tables-grow}
+use Rattle.pala.proofs.Demand.Runs.{call_at, effect_at, fresh-none, Moved, Next, stayed, moved, next, starts, reached, tables-grow}
 use Rattle.accord.specs.declared.Hall.{Hall}
-use Rattle.accord.specs.Head.{nodesOf, in_set, gateway, honestIn}
-use Rattle.accord.specs.Rulings.{table_of, named, shows, forged, clash, contentAt, contentOf}
+use Rattle.accord.specs.Head.{nodes_of, in_set, gateway, honest_in}
+use Rattle.accord.specs.Rulings.{table_of, named, shows, forged, clash, content_at, content_of}
 use Rattle.accord.proofs.Scans.{any-hit}
 use Rattle.accord.proofs.Halls.{Head}
 use Rattle.accord.proofs.Played.{Hosted, honest-in, honest-of}
 use Rattle.accord.proofs.Blocks.{Entry, Stands, entry, Adds, stands_one, stands-fits, grown-stands, grown-stood, new-stands}
-use Rattle.accord.proofs.OneBlock.{named-stands, clash-none, OneEntry, bookOf, book-is}
+use Rattle.accord.proofs.OneBlock.{named-stands, clash-none, OneEntry, book_of, book-is}
 
 -- the receiver and the record of an event
 abbrev to_at : Run → ℕ → ℕ
-to_at run k = (eventAt run k).to
+to_at run k = (event_at run k).to
 
 abbrev bytes_at : Run → ℕ → List ℕ
-bytes_at run k = (eventAt run k).bytes
+bytes_at run k = (event_at run k).bytes
 
 -- a taken record is whole
-taken-whole : (s : State) (r out : List ℕ) → Proper s → taken (step s r out).answer ≡ true → eqb (length r) recordBytes ≡ true
+taken-whole : (s : State) (r out : List ℕ) → Proper s → taken (step s r out).answer ≡ true → eqb (length r) record_bytes ≡ true
 taken-whole s r out k e = go (call-did s r out k)
   where
-    go : Stepped room s r out (step s r out) → eqb (length r) recordBytes ≡ true
+    go : Stepped room s r out (step s r out) → eqb (length r) record_bytes ≡ true
     go (refused f _) = absurd (not-both e f)
-    go (took _ p _ _) = eq-eqb (length r) recordBytes (record-length r out p.lengths)
+    go (took _ p _ _) = eq-eqb (length r) record_bytes (record-length r out p.lengths)
 
 -- a table shows a vote of node j for a name
 abbrev Shown : List Block → ℕ → List ℕ → Type 0
-Shown t j x = (p : ℕ) × (c : Entry) × Stands t p x c × (hasVoter (at t p) j ≡ true)
+Shown t j x = (p : ℕ) × (c : Entry) × Stands t p x c × (has_voter (at t p) j ≡ true)
 
 -- 21 not given: an honest sender's own table shows its vote
-forged-none : (h : Hall) (r : List ℕ) → forged h r ≡ false → is voteHeard r ≡ true → honestIn h (senderOf r) ≡ true
-    → Shown (table_of h (senderOf r)) (senderOf r) (name_of r)
+forged-none : (h : Hall) (r : List ℕ) → forged h r ≡ false → is vote_heard r ≡ true → honest_in h (sender_of r) ≡ true
+    → Shown (table_of h (sender_of r)) (sender_of r) (name_of r)
 unfolding forged shows
 forged-none h r e kind hj =
-    let (p, l, y) = any-hit (size t) (λ q. named t (name_of r) q && hasVoter (at t q) (senderOf r)) shown in (
+    let (p, l, y) = any-hit (size t) (λ q. named t (name_of r) q && has_voter (at t q) (sender_of r)) shown in (
       p,
-      entry (contentAt t p),
-      named-stands p l (and_l (named t (name_of r) p) (hasVoter (at t p) (senderOf r)) y),
-      and_r (named t (name_of r) p) (hasVoter (at t p) (senderOf r)) y,
+      entry (content_at t p),
+      named-stands p l (and_l (named t (name_of r) p) (has_voter (at t p) (sender_of r)) y),
+      and_r (named t (name_of r) p) (has_voter (at t p) (sender_of r)) y,
     )
   where
     t : List Block
-    t = table_of h (senderOf r)
+    t = table_of h (sender_of r)
 
-    shown : shows t (senderOf r) (name_of r) ≡ true
+    shown : shows t (sender_of r) (name_of r) ≡ true
     shown =
-        not-false (shows t (senderOf r) (name_of r))
-        (nand (is voteHeard r && honestIn h (senderOf r)) (not (shows t (senderOf r) (name_of r))) e
-        (and_both (is voteHeard r) (honestIn h (senderOf r)) kind hj))
+        not-false (shows t (sender_of r) (name_of r))
+        (nand (is vote_heard r && honest_in h (sender_of r)) (not (shows t (sender_of r) (name_of r))) e
+        (and_both (is vote_heard r) (honest_in h (sender_of r)) kind hj))
 
 module _ (bytes : List ℕ) (head : Head bytes) (run : Run) (hosted : (k : ℕ) → k < length run → Hosted bytes head run k) where
   abbrev n : ℕ
-  n = nodesOf bytes
+  n = nodes_of bytes
 
   abbrev honest : ℕ → Bool
   honest = in_set bytes
 
-  most : n ≤ mostNodes
+  most : n ≤ most_nodes
   most = omega (arith, head.most)
 
-  proper : (m i : ℕ) → i < n → Proper (stateAt n run m i)
+  proper : (m i : ℕ) → i < n → Proper (state_at n run m i)
   proper m i l = (reached n i head.some most l run m).proper
 
   next_of : (m i : ℕ) → i < n → Next n run m i
@@ -100,17 +100,17 @@ module _ (bytes : List ℕ) (head : Head bytes) (run : Run) (hosted : (k : ℕ) 
     abbrev h : Hall
     h = (hosted k l).hall
 
-    state-is : (i : ℕ) → i < n → gateway h i ≡ stateAt n run k i
+    state-is : (i : ℕ) → i < n → gateway h i ≡ state_at n run k i
     state-is = (hosted k l).reached.follows
 
     table_is : (i : ℕ) → i < n → table_of h i ≡ table_at n run k i
     unfolding table_of table_at
     table_is i b = ap rows (state-is i b)
 
-    host-honest : (i : ℕ) → Honest n honest i → honestIn h i ≡ true
+    host-honest : (i : ℕ) → Honest n honest i → honest_in h i ≡ true
     host-honest i hi = honest-in bytes head run (hosted k l).reached i (omega (arith, hi.0, head.most)) ∙ hi.1
 
-    whole : eqb (length (bytes_at run k)) recordBytes ≡ true
+    whole : eqb (length (bytes_at run k)) record_bytes ≡ true
     whole =
         let admits = (hosted k l).admits in
         let below : to_at run k < n = (honest-of bytes head run (hosted k l).reached (to_at run k) admits.honest).0 in
@@ -118,15 +118,15 @@ module _ (bytes : List ℕ) (head : Head bytes) (run : Run) (hosted : (k : ℕ) 
         (subst Proper (sym (state-is (to_at run k) below)) (proper k (to_at run k) below)) admits.answered
 
     not-forged : forged h (bytes_at run k) ≡ false
-    not-forged = nand (eqb (length (bytes_at run k)) recordBytes) (forged h (bytes_at run k)) (hosted k l).admits.genuine whole
+    not-forged = nand (eqb (length (bytes_at run k)) record_bytes) (forged h (bytes_at run k)) (hosted k l).admits.genuine whole
 
     not-clash : clash h (gateway h (to_at run k)) (bytes_at run k) ≡ false
     not-clash =
-        nand (eqb (length (bytes_at run k)) recordBytes) (clash h (gateway h (to_at run k)) (bytes_at run k)) (hosted k l).admits.single whole
+        nand (eqb (length (bytes_at run k)) record_bytes) (clash h (gateway h (to_at run k)) (bytes_at run k)) (hosted k l).admits.single whole
 
     -- a vote heard under an honest number had been cast
-    vote-cast : is voteHeard (bytes_at run k) ≡ true → Honest n honest (senderOf (bytes_at run k))
-        → Cast n run k (senderOf (bytes_at run k)) (name_of (bytes_at run k))
+    vote-cast : is vote_heard (bytes_at run k) ≡ true → Honest n honest (sender_of (bytes_at run k))
+        → Cast n run k (sender_of (bytes_at run k)) (name_of (bytes_at run k))
     vote-cast kind hj =
         let (p, _, v, y) =
         subst (λ (t : List Block). Shown t j (name_of (bytes_at run k))) (table_is j hj.0)
@@ -134,24 +134,24 @@ module _ (bytes : List ℕ) (head : Head bytes) (run : Run) (hosted : (k : ℕ) 
         subst (Cast n run k j) v.named ((own-votes n j head.some most hj.0 run k p v.held).0 y)
       where
         j : ℕ
-        j = senderOf (bytes_at run k)
+        j = sender_of (bytes_at run k)
 
     -- a name that an honest table has is the record's block
     entry-is : Adds (bytes_at run k) → (i p : ℕ) (c : Entry) → Honest n honest i → Stands (table_at n run k i) p (name_of (bytes_at run k)) c
-        → (a : ℕ) → a < n → to_at run k ≡ a → c ≡ entry (contentOf (stateAt n run k a) (bytes_at run k))
+        → (a : ℕ) → a < n → to_at run k ≡ a → c ≡ entry (content_of (state_at n run k a) (bytes_at run k))
     entry-is adds i p c hi v a b e =
         clash-none h (gateway h (to_at run k)) (bytes_at run k) not-clash adds i (omega (arith, hi.0, head.most)) (host-honest i hi) p c
         (subst (λ (t : List Block). Stands t p (name_of (bytes_at run k)) c) (sym (table_is i hi.0)) v)
-        ∙ ap (λ (s : State). entry (contentOf s (bytes_at run k))) (ap (gateway h) e ∙ state-is a b)
+        ∙ ap (λ (s : State). entry (content_of s (bytes_at run k))) (ap (gateway h) e ∙ state-is a b)
 
   -- ---- one name stands for one block
 
   -- what stands in an honest table after event m stood there, or came with the event
   data Came (m i p : ℕ) (x : List ℕ) (c : Entry) : Type 0 where
     old : Stands (table_at n run m i) p x c → Came m i p x c
-    new : Moved n run m i → Adds (bytes_at run m) → x ≡ name_of (bytes_at run m) → c ≡ entry (contentOf (stateAt n run m i) (bytes_at run m)) → Came m i p x c
+    new : Moved n run m i → Adds (bytes_at run m) → x ≡ name_of (bytes_at run m) → c ≡ entry (content_of (state_at n run m i) (bytes_at run m)) → Came m i p x c
 
-  after : (m i : ℕ) → i < n → Moved n run m i → Proper (settled (effectAt n run m i))
+  after : (m i : ℕ) → i < n → Moved n run m i → Proper (settled (effect_at n run m i))
   after m i l w = subst Proper w.later (proper (suc m) i l)
 
   came : (m i p : ℕ) (x : List ℕ) (c : Entry) → i < n → Stands (table_at n run (suc m) i) p x c → Came m i p x c
@@ -163,12 +163,12 @@ module _ (bytes : List ℕ) (head : Head bytes) (run : Run) (hosted : (k : ℕ) 
       go (moved w) = place (new-place (proper m i l) w.did p now.held.1)
         where
           u : State
-          u = effectAt n run m i
+          u = effect_at n run m i
 
           now : Stands (rows u) p x c
           now = subst (λ (t : List Block). Stands t p x c) (ap rows w.later ∙ rows_settled u) v
 
-          place : (p < size (rows (stateAt n run m i))) ⊎ (Adds (bytes_at run m) × (p ≡ u.count)) → Came m i p x c
+          place : (p < size (rows (state_at n run m i))) ⊎ (Adds (bytes_at run m) × (p ≡ u.count)) → Came m i p x c
           place (inl b) = old (grown-stood (did-grown (proper m i l) w.did) p (now.held.0, b) now)
           place (inr (adds, e)) =
               let same =
@@ -186,7 +186,7 @@ module _ (bytes : List ℕ) (head : Head bytes) (run : Run) (hosted : (k : ℕ) 
 
       -- the record's block, and one of its name that stood
       met : (a b k : ℕ) (f g : Entry) → Honest n honest b → Moved n run m a → a < n → Adds r → x ≡ name_of r
-          → f ≡ entry (contentOf (stateAt n run m a) r) → Stands (table_at n run m b) k x g → f ≡ g
+          → f ≡ entry (content_of (state_at n run m a) r) → Stands (table_at n run m b) k x g → f ≡ g
       met a b k f g hb u l adds ex ef y =
           ef ∙ sym (entry-is m u.happened adds b k g hb (subst (λ z. Stands (table_at n run m b) k z g) ex y) a l u.its)
 
@@ -195,33 +195,33 @@ module _ (bytes : List ℕ) (head : Head bytes) (run : Run) (hosted : (k : ℕ) 
       go ih (new u adds ex ec) (old b) = met i j q c d hj u hi.0 adds ex ec b
       go ih (old a) (new u adds ex ed) = sym (met j i p d c hi u hj.0 adds ex ed a)
       go ih (new u adds ex ec) (new y _ _ ed) =
-          ec ∙ ap (λ a. entry (contentOf (stateAt n run m a) r)) (sym u.its ∙ y.its) ∙ sym ed
+          ec ∙ ap (λ a. entry (content_of (state_at n run m a) r)) (sym u.its ∙ y.its) ∙ sym ed
 
   -- the tables at the end are a book for the whole run
-  abbrev pub lastBook : Book
-  lastBook = bookOf n honest (table_at n run (length run))
+  abbrev pub last_book : Book
+  last_book = book_of n honest (table_at n run (length run))
 
-  block-fits : (k : ℕ) → k < length run → Honest n honest (to_at run k) → taken (outcomeAt n run k).answer ≡ true → Adds (bytes_at run k)
-      → Fits lastBook (rows (outcomeAt n run k).state) (outcomeAt n run k).state.count
-  unfolding outcomeAt table_at settled
+  block-fits : (k : ℕ) → k < length run → Honest n honest (to_at run k) → taken (outcome_at n run k).answer ≡ true → Adds (bytes_at run k)
+      → Fits last_book (rows (outcome_at n run k).state) (outcome_at n run k).state.count
+  unfolding outcome_at table_at settled
   block-fits k l hi e adds = go (next_of k i hi.0)
     where
       i : ℕ
       i = to_at run k
 
-      go : Next n run k i → Fits lastBook (rows (call_at n run k i).state) (call_at n run k i).state.count
+      go : Next n run k i → Fits last_book (rows (call_at n run k i).state) (call_at n run k i).state.count
       go (stayed idle _) = absurd (not-both e (idle l refl))
       go (moved w) =
-          subst (λ (s : State). Fits lastBook (rows s) s.count) (sym w.settles)
-          (subst (λ (t : List Block). Fits lastBook t u.count) (sym (rows_settled u))
+          subst (λ (s : State). Fits last_book (rows s) s.count) (sym w.settles)
+          (subst (λ (t : List Block). Fits last_book t u.count) (sym (rows_settled u))
           (stands-fits v
           (book-is n honest (table_at n run (length run)) (one_entry (length run)) i u.count (name_of (bytes_at run k)) _ hi
           (grown-stands grown u.count v.held v))))
         where
           u : State
-          u = effectAt n run k i
+          u = effect_at n run k i
 
-          v : Stands (rows u) u.count (name_of (bytes_at run k)) (entry (contentOf (stateAt n run k i) (bytes_at run k)))
+          v : Stands (rows u) u.count (name_of (bytes_at run k)) (entry (content_of (state_at n run k i) (bytes_at run k)))
           v = new-stands (proper k i hi.0) (bytes_at run k) (after k i hi.0 w) adds
 
           grown : Grown (rows u) (table_at n run (length run) i)
@@ -230,14 +230,14 @@ module _ (bytes : List ℕ) (head : Head bytes) (run : Run) (hosted : (k : ℕ) 
               (tables-grow n i head.some most hi.0 run (suc k) (length run) l)
 
   -- the premises event by event
-  pub each-taken : EachTaken n honest run lastBook
+  pub each-taken : EachTaken n honest run last_book
   unfolding taken
   each-taken k l hi answered =
       record {
-        vote = λ kind hj. vote-cast k l (eq-eqb (kind_of (bytes_at run k)) voteHeard kind) hj;
-        block = λ kind. block-fits k l hi (eq-eqb (number (outcomeAt n run k).answer) 0 answered) (adds kind);
+        vote = λ kind hj. vote-cast k l (eq-eqb (kind_of (bytes_at run k)) vote_heard kind) hj;
+        block = λ kind. block-fits k l hi (eq-eqb (number (outcome_at n run k).answer) 0 answered) (adds kind);
       }
     where
-      adds : (kind_of (bytes_at run k) ≡ proposalHeard) ⊎ (kind_of (bytes_at run k) ≡ proposeNow) → Adds (bytes_at run k)
-      adds (inl e) = inl (eq-eqb (kind_of (bytes_at run k)) proposalHeard e)
-      adds (inr e) = inr (eq-eqb (kind_of (bytes_at run k)) proposeNow e)
+      adds : (kind_of (bytes_at run k) ≡ proposal_heard) ⊎ (kind_of (bytes_at run k) ≡ propose_now) → Adds (bytes_at run k)
+      adds (inl e) = inl (eq-eqb (kind_of (bytes_at run k)) proposal_heard e)
+      adds (inr e) = inr (eq-eqb (kind_of (bytes_at run k)) propose_now e)

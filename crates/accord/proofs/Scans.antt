@@ -9,22 +9,22 @@ use borrow.Author.Count.{below_more}
 use Rattle.table.specs.Scan.{lowest}
 use Rattle.table.proofs.Laws.{not-both, lowest-below}
 use Rattle.pala.proofs.Tests.{nor-l, nor-r, or_cases}
-use Rattle.accord.specs.Rulings.{anyBelow}
+use Rattle.accord.specs.Rulings.{any_below}
 
 -- where none passes, each fails
-pub any_none : (k : ℕ) (ok : ℕ → Bool) → anyBelow k ok ≡ false → (i : ℕ) → i < k → ok i ≡ false
-unfolding anyBelow
+pub any_none : (k : ℕ) (ok : ℕ → Bool) → any_below k ok ≡ false → (i : ℕ) → i < k → ok i ≡ false
+unfolding any_below
 any_none zero ok h i l = absurd (omega arith)
 any_none (suc k) ok h i l =
-    below_more (λ j. ok j ≡ false) k (any_none k ok (nor-l (anyBelow k ok) (ok k) h)) (nor-r (anyBelow k ok) (ok k) h) i (omega arith)
+    below_more (λ j. ok j ≡ false) k (any_none k ok (nor-l (any_below k ok) (ok k) h)) (nor-r (any_below k ok) (ok k) h) i (omega arith)
 
 -- where one passes, here it is
-pub any-hit : (k : ℕ) (ok : ℕ → Bool) → anyBelow k ok ≡ true → (i : ℕ) × (i < k) × (ok i ≡ true)
-unfolding anyBelow
+pub any-hit : (k : ℕ) (ok : ℕ → Bool) → any_below k ok ≡ true → (i : ℕ) × (i < k) × (ok i ≡ true)
+unfolding any_below
 any-hit zero ok h = absurd (not-both h refl)
-any-hit (suc k) ok h = go (any-hit k ok) (or_cases (anyBelow k ok) (ok k) h)
+any-hit (suc k) ok h = go (any-hit k ok) (or_cases (any_below k ok) (ok k) h)
   where
-    go : (anyBelow k ok ≡ true → (i : ℕ) × (i < k) × (ok i ≡ true)) → (anyBelow k ok ≡ true) ⊎ (ok k ≡ true) → (i : ℕ) × (i < suc k) × (ok i ≡ true)
+    go : (any_below k ok ≡ true → (i : ℕ) × (i < k) × (ok i ≡ true)) → (any_below k ok ≡ true) ⊎ (ok k ≡ true) → (i : ℕ) × (i < suc k) × (ok i ≡ true)
     go ih (inl e) = let (i, l, y) = ih e in (i, omega arith, y)
     go ih (inr e) = (k, omega arith, e)
 

@@ -6,17 +6,17 @@ use mathlib.Core.Path.{◌≡◌, refl}
 use native.Mathlib.Omega.{arith}
 use Rattle.table.specs.Scan.{count, pick}
 use Rattle.pala.specs.Cases.{letter, hear, vote, clock, A'}
-use Rattle.pala.specs.Counts.{noName}
+use Rattle.pala.specs.Counts.{no_name}
 use Rattle.pala.specs.Record.{message}
-use Rattle.pala.proofs.States.{propose, castBy, minute}
-use Rattle.accord.specs.Head.{in_set, goodHead, freshHall}
+use Rattle.pala.proofs.States.{propose, cast_by, minute}
+use Rattle.accord.specs.Head.{in_set, good_head, fresh_hall}
 use Rattle.accord.specs.Words.{agree, list_of}
-use Rattle.accord.specs.Text.{hallPlayed}
+use Rattle.accord.specs.Text.{hall_played}
 use Rattle.accord.specs.NeverNo.{FewHead}
 
 -- four nodes with one faulty, eight with two
 few-heads : FewHead (4 ∷ 7 ∷ []) × FewHead (8 ∷ 63 ∷ [])
-unfolding goodHead in_set count pick
+unfolding good_head in_set count pick
 few-heads = (record { good = refl; few = omega arith }, record { good = refl; few = omega arith })
 
 abbrev B' : List ℕ
@@ -32,17 +32,17 @@ Y = letter 0x2B
 unfoldable pub forking : List (List ℕ)
 unfolding message
 forking =
-    (2 ∷ hear 1 1 A' noName) ∷ (2 ∷ castBy 2) ∷ (2 ∷ vote 1 A')
-    ∷ (2 ∷ propose 2 B') ∷ (2 ∷ castBy 2) ∷ (2 ∷ vote 1 B')
+    (2 ∷ hear 1 1 A' no_name) ∷ (2 ∷ cast_by 2) ∷ (2 ∷ vote 1 A')
+    ∷ (2 ∷ propose 2 B') ∷ (2 ∷ cast_by 2) ∷ (2 ∷ vote 1 B')
     ∷ (0 ∷ minute 0) ∷ (0 ∷ clock 1 2) ∷ (0 ∷ minute 0) ∷ (0 ∷ clock 1 3)
-    ∷ (0 ∷ propose 0 X) ∷ (0 ∷ castBy 0) ∷ (0 ∷ vote 1 X)
-    ∷ (0 ∷ hear 1 4 Y X) ∷ (0 ∷ castBy 0) ∷ (0 ∷ vote 1 Y)
+    ∷ (0 ∷ propose 0 X) ∷ (0 ∷ cast_by 0) ∷ (0 ∷ vote 1 X)
+    ∷ (0 ∷ hear 1 4 Y X) ∷ (0 ∷ cast_by 0) ∷ (0 ∷ vote 1 Y)
     ∷ []
 
 says-no-at-a-third :
-    (goodHead (3 ∷ 5 ∷ []) ≡ true)
-    × (agree (hallPlayed (freshHall (3 ∷ 5 ∷ [])) forking) ≡ false)
-    × (list_of (hallPlayed (freshHall (3 ∷ 5 ∷ [])) forking) 0 ≡ X)
-    × (list_of (hallPlayed (freshHall (3 ∷ 5 ∷ [])) forking) 2 ≡ A')
-unfolding goodHead agree hallPlayed freshHall forking list_of
+    (good_head (3 ∷ 5 ∷ []) ≡ true)
+    × (agree (hall_played (fresh_hall (3 ∷ 5 ∷ [])) forking) ≡ false)
+    × (list_of (hall_played (fresh_hall (3 ∷ 5 ∷ [])) forking) 0 ≡ X)
+    × (list_of (hall_played (fresh_hall (3 ∷ 5 ∷ [])) forking) 2 ≡ A')
+unfolding good_head agree hall_played fresh_hall forking list_of
 says-no-at-a-third = (refl, refl, refl, refl)

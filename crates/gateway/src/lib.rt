@@ -4,7 +4,7 @@
 mod runs;
 
 ghost use Rattle.std.specs.Prelude.{◌≡◌};
-ghost use Rattle.pala.specs.Lists.{relation, relationCode};
+ghost use Rattle.pala.specs.Lists.{relation, relation_code};
 ghost use Rattle.pala.specs.Run.{Ran, run};
 
 use runs::run;
@@ -20,7 +20,7 @@ pub extern "C" fn oanhvidet_run(n: u32, own: u32, records: &[u8], list: &mut [u8
 // "The relation reaches C as relation x 2^60 + index."
 #[unsafe(no_mangle)]
 pub extern "C" fn oanhvidet_relation(a: &[u8], b: &[u8]) -> u64
-    ensures { result ≡ relationCode (relation a.now b.now) }
+    ensures { result ≡ relation_code (relation a.now b.now) }
 {
     lists::relations::code(a, b)
 }

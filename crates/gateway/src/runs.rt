@@ -2,7 +2,7 @@
 
 ghost use Rattle.std.specs.Prelude.{◌%◌, true, ◌≡◌, length};
 ghost use Rattle.pala.specs.Run.{Ran, run, played, stretches};
-ghost use Rattle.pala.specs.Shape.{wellShaped};
+ghost use Rattle.pala.specs.Shape.{well_shaped};
 
 use lists::finals::final_list_shaped;
 use node::answers::is_taken;
@@ -20,8 +20,8 @@ const SETUP_REFUSED: u64 = 15 * 65536;
 
 // The state after every record has been put to the newest one: "Refused records are passed over", and make no new state.
 fn play(s: State, records: &[u8]) -> State
-    requires { (wellShaped s ≡ true) × (length records.now % 96 ≡ 0) }
-    ensures { (result ≡ played s (stretches records.now)) × (wellShaped result ≡ true) }
+    requires { (well_shaped s ≡ true) × (length records.now % 96 ≡ 0) }
+    ensures { (result ≡ played s (stretches records.now)) × (well_shaped result ≡ true) }
 {
     let mut t = s;
     let mut from: usize = 0;

@@ -13,35 +13,35 @@ use Rattle.table.specs.declared.State.{State}
 use Rattle.table.specs.Scan.{pick}
 use Rattle.table.specs.Rows.{capacity, rows, at}
 use Rattle.pala.specs.Answers.{taken}
-use Rattle.pala.specs.Record.{recordBytes, kind_of, senderOf}
+use Rattle.pala.specs.Record.{record_bytes, kind_of, sender_of}
 use Rattle.pala.specs.Run.{lent}
 use Rattle.pala.specs.Step.{step}
-use Rattle.node.specs.Moves.{placeFor}
+use Rattle.node.specs.Moves.{place_for}
 use Rattle.lines.specs.Text.{written}
 use Rattle.accord.specs.declared.Hall.{Hall}
-use Rattle.accord.specs.Head.{mostGateways, gateway, honestIn}
+use Rattle.accord.specs.Head.{most_gateways, gateway, honest_in}
 use Rattle.accord.specs.Rulings.{table_of, seated}
 use Rattle.accord.proofs.Halls.{seated-same, seated-other}
 use Rattle.hall.specs.Kept.{Kept}
-use Rattle.hall.specs.Book.{bookBytes, row_at, row_of, Whole, block_row, no_row, heldRow, Pages, touched}
-use Rattle.hall.proofs.Rows.{row-length, row_same, row_other}
+use Rattle.hall.specs.Book.{book_bytes, row_at, row_of, Whole, block_row, no_row, held_row, Pages, touched}
+use Rattle.hall.proofs.Rows.{row-length, row_same, row_other_lem}
 use Rattle.hall.proofs.Filling.{block-long, held-block, held-past}
 use Rattle.hall.proofs.Touches.{Touches, step-touches}
 
 -- ---- a hall in which one gateway's state is another
 
-module _ {h : Hall} {book : List ℕ} (k : Kept h) (pages : Pages h book) (i : ℕ) (e : honestIn h i ≡ true) (t : State) (p : ℕ) (w : Touches (gateway h i) t i p) where
+module _ {h : Hall} {book : List ℕ} (k : Kept h) (pages : Pages h book) (i : ℕ) (e : honest_in h i ≡ true) (t : State) (p : ℕ) (w : Touches (gateway h i) t i p) where
   abbrev after : Hall
   after = seated h i t
 
-  seat : i < mostGateways
+  seat : i < most_gateways
   seat = omega (arith, k.low i e, k.most)
 
   here : gateway after i ≡ t
   here = seated-same h i t (omega (arith, seat, k.seats))
 
-  still-honest : honestIn after i ≡ true
-  unfolding honestIn seated
+  still-honest : honest_in after i ≡ true
+  unfolding honest_in seated
   still-honest = e
 
   table_here : table_of after i ≡ rows t
@@ -49,16 +49,16 @@ module _ {h : Hall} {book : List ℕ} (k : Kept h) (pages : Pages h book) (i : �
   table_here = ap rows here
 
   -- the rows to be held: the others' as they were, its own too but for place p's
-  held-elsewhere : (j q : ℕ) → j ≢ i → heldRow after j q ≡ heldRow h j q
-  unfolding heldRow table_of honestIn seated
+  held-elsewhere : (j q : ℕ) → j ≢ i → held_row after j q ≡ held_row h j q
+  unfolding held_row table_of honest_in seated
   held-elsewhere j q d =
-      ap (λ (s : State). pick (honestIn h j && leb q s.count) (block_row (rows s) j q) no_row) (seated-other h i t j d)
+      ap (λ (s : State). pick (honest_in h j && leb q s.count) (block_row (rows s) j q) no_row) (seated-other h i t j d)
 
-  held-anew : heldRow after i p ≡ block_row (rows t) i p
+  held-anew : held_row after i p ≡ block_row (rows t) i p
   held-anew =
       held-block after i p still-honest (omega (arith, ap (λ (s : State). s.count) here, w.low)) ∙ ap (λ (x : List Block). block_row x i p) table_here
 
-  held-still : (q : ℕ) → 0 < q → q ≢ p → heldRow after i q ≡ heldRow h i q
+  held-still : (q : ℕ) → 0 < q → q ≢ p → held_row after i q ≡ held_row h i q
   unfolding table_of
   held-still q pos d =
       let counts : (gateway after i).count ≡ t.count = ap (λ (s : State). s.count) here in
@@ -76,8 +76,8 @@ module _ {h : Hall} {book : List ℕ} (k : Kept h) (pages : Pages h book) (i : �
   unfolding table_of
   whole-after = w.whole (λ q. pages.sized i q e)
 
-  sized-after : (j q : ℕ) → honestIn after j ≡ true → Whole (at (table_of after j) q)
-  unfolding honestIn seated table_of
+  sized-after : (j q : ℕ) → honest_in after j ≡ true → Whole (at (table_of after j) q)
+  unfolding honest_in seated table_of
   sized-after j q l =
       elim (ℕ_discrete j i) [
         | yes d ↦ subst (λ (x : ℕ). Whole (at (table_of after x) q)) (sym d) (subst (λ (x : List Block). Whole (at x q)) (sym table_here) (whole-after q))
@@ -85,8 +85,8 @@ module _ {h : Hall} {book : List ℕ} (k : Kept h) (pages : Pages h book) (i : �
       ]
 
   -- a book that differs in that row alone
-  pages-anew : (new : List ℕ) → length new ≡ bookBytes → (0 < p → row_at new (row_of i p) ≡ block_row (rows t) i p)
-      → ((j q : ℕ) → j < mostGateways → 0 < q → q ≤ capacity → (j ≡ i → q ≢ p) → row_at new (row_of j q) ≡ row_at book (row_of j q))
+  pages-anew : (new : List ℕ) → length new ≡ book_bytes → (0 < p → row_at new (row_of i p) ≡ block_row (rows t) i p)
+      → ((j q : ℕ) → j < most_gateways → 0 < q → q ≤ capacity → (j ≡ i → q ≢ p) → row_at new (row_of j q) ≡ row_at book (row_of j q))
       → Pages after new
   pages-anew new long row others =
       record {
@@ -96,9 +96,9 @@ module _ {h : Hall} {book : List ℕ} (k : Kept h) (pages : Pages h book) (i : �
             λ j q l pos most.
             elim (ℕ_discrete j i) [
               | yes d ↦
-                  subst (λ (x : ℕ). row_at new (row_of x q) ≡ heldRow after x q) (sym d)
+                  subst (λ (x : ℕ). row_at new (row_of x q) ≡ held_row after x q) (sym d)
                   (elim (ℕ_discrete q p) [
-                    | yes f ↦ subst (λ (x : ℕ). row_at new (row_of i x) ≡ heldRow after i x) (sym f) (row (omega arith) ∙ sym held-anew)
+                    | yes f ↦ subst (λ (x : ℕ). row_at new (row_of i x) ≡ held_row after i x) (sym f) (row (omega arith) ∙ sym held-anew)
                     | no f ↦ others i q seat pos most (λ _. f) ∙ pages.held i q seat pos most ∙ sym (held-still q pos f)
                   ])
               | no d ↦ others j q l pos most (λ z. absurd (d z)) ∙ pages.held j q l pos most ∙ sym (held-elsewhere j q d)
@@ -117,24 +117,24 @@ module _ {h : Hall} {book : List ℕ} (k : Kept h) (pages : Pages h book) (i : �
       d gateways (omega arith)
 
   -- one is: the book with that row written
-  book-entered : 0 < p → Pages after (written book (recordBytes * row_of i p) (block_row (rows t) i p))
+  book-entered : 0 < p → Pages after (written book (record_bytes * row_of i p) (block_row (rows t) i p))
   book-entered pos =
       let row = block_row (rows t) i p in
-      let whole : length row ≡ recordBytes = block-long (rows t) i p whole-after in
-      let fits : recordBytes * row_of i p + recordBytes ≤ length book = omega (arith, pages.long, seat, w.low, w.most) in
-      pages-anew (written book (recordBytes * row_of i p) row) (row-length book row (row_of i p) whole fits ∙ pages.long)
+      let whole : length row ≡ record_bytes = block-long (rows t) i p whole-after in
+      let fits : record_bytes * row_of i p + record_bytes ≤ length book = omega (arith, pages.long, seat, w.low, w.most) in
+      pages-anew (written book (record_bytes * row_of i p) row) (row-length book row (row_of i p) whole fits ∙ pages.long)
       (λ _. row_same book row (row_of i p) whole fits)
-      (λ j q l above most d. row_other book row (row_of i p) whole fits (row_of j q) (apart pos j q above most d))
+      (λ j q l above most d. row_other_lem book row (row_of i p) whole fits (row_of j q) (apart pos j q above most d))
 
 -- ---- a call
 
-module _ {h : Hall} {book : List ℕ} (k : Kept h) (pages : Pages h book) (i : ℕ) (e : honestIn h i ≡ true) (r : List ℕ)
+module _ {h : Hall} {book : List ℕ} (k : Kept h) (pages : Pages h book) (i : ℕ) (e : honest_in h i ≡ true) (r : List ℕ)
     (takes : taken (step (gateway h i) r lent).answer ≡ true) (t : State) (new : t ≡ (step (gateway h i) r lent).state)
-    (p : ℕ) (place : p ≡ touched i (kind_of r) (senderOf r) (placeFor (gateway h i) r) t.count) where
+    (p : ℕ) (place : p ≡ touched i (kind_of r) (sender_of r) (place_for (gateway h i) r) t.count) where
   touches : Touches (gateway h i) t i p
   touches =
       subst (Touches (gateway h i) t i) (sym place)
-      (subst (λ (u : State). Touches (gateway h i) u i (touched i (kind_of r) (senderOf r) (placeFor (gateway h i) r) u.count)) (sym new)
+      (subst (λ (u : State). Touches (gateway h i) u i (touched i (kind_of r) (sender_of r) (place_for (gateway h i) r) u.count)) (sym new)
       (step-touches (gateway h i) (k.places i (k.low i e)) (k.shaped i (k.low i e)) r takes i))
 
   -- the place is one that the table has
@@ -147,5 +147,5 @@ module _ {h : Hall} {book : List ℕ} (k : Kept h) (pages : Pages h book) (i : �
   pub pages-kept : p ≡ 0 → Pages (seated h i t) book
   pages-kept = book-kept k pages i e t p touches
 
-  pub pages-entered : 0 < p → Pages (seated h i t) (written book (recordBytes * row_of i p) (block_row (rows t) i p))
+  pub pages-entered : 0 < p → Pages (seated h i t) (written book (record_bytes * row_of i p) (block_row (rows t) i p))
   pages-entered = book-entered k pages i e t p touches

@@ -12,61 +12,61 @@ use borrow.Author.Tests.{le-leb, lt-leb}
 use Rattle.table.specs.declared.Block.{Block}
 use Rattle.table.specs.declared.State.{State}
 use Rattle.table.specs.Scan.{pick}
-use Rattle.table.specs.Rows.{capacity, allZero, rows, at, hasVoter}
+use Rattle.table.specs.Rows.{capacity, all_zero, rows, at, has_voter}
 use Rattle.table.proofs.Laws.{not-both, fails, pick_yes, pick_no, get_d_any}
-use Rattle.pala.specs.Record.{recordBytes, proposalHeard}
-use Rattle.pala.specs.Rules.{epochAt, parent_of}
+use Rattle.pala.specs.Record.{record_bytes, proposal_heard}
+use Rattle.pala.specs.Rules.{epoch_at, parent_of}
 use Rattle.pala.proofs.Shapes.{shaped-count}
 use Rattle.pala.proofs.Sent.{message-length}
 use Rattle.pala.proofs.Tests.{and_both, and_r}
 use Rattle.lines.specs.Text.{written}
 use Rattle.accord.specs.declared.Hall.{Hall}
-use Rattle.accord.specs.Head.{mostGateways, gateway, honestIn}
+use Rattle.accord.specs.Head.{most_gateways, gateway, honest_in}
 use Rattle.accord.specs.Rulings.{table_of}
 use Rattle.hall.specs.Kept.{Kept}
-use Rattle.hall.specs.Book.{bookBytes, row_at, row_of, Whole, Paged, block_row, no_row, heldRow, Pages}
-use Rattle.hall.proofs.Rows.{zero_row, row-length, row_same, row_other}
+use Rattle.hall.specs.Book.{book_bytes, row_at, row_of, Whole, Paged, block_row, no_row, held_row, Pages}
+use Rattle.hall.proofs.Rows.{zero_row, row-length, row_same, row_other_lem}
 
 -- the row of a block has 96 bytes
-pub block-long : (t : List Block) (i p : ℕ) → ((q : ℕ) → Whole (at t q)) → length (block_row t i p) ≡ recordBytes
+pub block-long : (t : List Block) (i p : ℕ) → ((q : ℕ) → Whole (at t q)) → length (block_row t i p) ≡ record_bytes
 unfolding block_row
 block-long t i p whole =
-    message-length proposalHeard (pick (hasVoter (at t p) i) 1 0) (epochAt t p) (at t p).name (at t (parent_of t p)).name (at t p).payload
+    message-length proposal_heard (pick (has_voter (at t p) i) 1 0) (epoch_at t p) (at t p).name (at t (parent_of t p)).name (at t p).payload
     (whole p).name (whole (parent_of t p)).name (whole p).payload
 
 -- the row that the book is to hold
 module _ (h : Hall) (i p : ℕ) where
-  pub held-block : honestIn h i ≡ true → p ≤ (gateway h i).count → heldRow h i p ≡ block_row (table_of h i) i p
-  unfolding heldRow
-  held-block k l = pick_yes _ _ _ (and_both (honestIn h i) (leb p (gateway h i).count) k (le-leb p (gateway h i).count l))
+  pub held-block : honest_in h i ≡ true → p ≤ (gateway h i).count → held_row h i p ≡ block_row (table_of h i) i p
+  unfolding held_row
+  held-block k l = pick_yes _ _ _ (and_both (honest_in h i) (leb p (gateway h i).count) k (le-leb p (gateway h i).count l))
 
-  pub held-past : (gateway h i).count < p → heldRow h i p ≡ no_row
-  unfolding heldRow
+  pub held-past : (gateway h i).count < p → held_row h i p ≡ no_row
+  unfolding held_row
   held-past l =
-      pick_no _ _ _ (fails _ (λ e. not-both (and_r (honestIn h i) (leb p (gateway h i).count) e) (lt-leb p (gateway h i).count l)))
+      pick_no _ _ _ (fails _ (λ e. not-both (and_r (honest_in h i) (leb p (gateway h i).count) e) (lt-leb p (gateway h i).count l)))
 
-  pub held-faulty : honestIn h i ≡ false → heldRow h i p ≡ no_row
-  unfolding heldRow
+  pub held-faulty : honest_in h i ≡ false → held_row h i p ≡ no_row
+  unfolding held_row
   held-faulty k = pick_no _ _ _ (ap (λ (x : Bool). x && leb p (gateway h i).count) k)
 
 -- ---- one gateway
 
 -- its rows below place p are written, and every row but those is as it was
 pub record Entered (before : List ℕ) (i : ℕ) (s : State) (p : ℕ) (book : List ℕ) : Type 0 where
-  pub long : length book ≡ bookBytes
+  pub long : length book ≡ book_bytes
   pub done : (q : ℕ) → 0 < q → q < p → row_at book (row_of i q) ≡ block_row (rows s) i q
   pub kept : (e : ℕ) → (e < capacity * i) ⊎ (capacity * i + p ≤ suc e) → row_at book e ≡ row_at before e
 
-pub entered-none : (book : List ℕ) (i : ℕ) (s : State) → length book ≡ bookBytes → Entered book i s 1 book
+pub entered-none : (book : List ℕ) (i : ℕ) (s : State) → length book ≡ book_bytes → Entered book i s 1 book
 entered-none book i s l = record { long = l; done = λ q pos m. absurd (omega arith); kept = λ e m. refl }
 
 -- one row more
 pub entered-more :
-    {before book after : List ℕ} {i : ℕ} {s : State} {p : ℕ} → Entered before i s p book → i < mostGateways → 0 < p → p ≤ capacity
-    → length (block_row (rows s) i p) ≡ recordBytes → after ≡ written book (recordBytes * row_of i p) (block_row (rows s) i p)
+    {before book after : List ℕ} {i : ℕ} {s : State} {p : ℕ} → Entered before i s p book → i < most_gateways → 0 < p → p ≤ capacity
+    → length (block_row (rows s) i p) ≡ record_bytes → after ≡ written book (record_bytes * row_of i p) (block_row (rows s) i p)
     → Entered before i s (p + 1) after
 entered-more {before} {book} {after} {i} {s} {p} w low pos most whole e =
-    let fits : recordBytes * row_of i p + recordBytes ≤ length book = omega (arith, w.long) in
+    let fits : record_bytes * row_of i p + record_bytes ≤ length book = omega (arith, w.long) in
     let row = block_row (rows s) i p in
     record {
       long = ap length e ∙ row-length book row (row_of i p) whole fits ∙ w.long;
@@ -74,14 +74,14 @@ entered-more {before} {book} {after} {i} {s} {p} w low pos most whole e =
           λ q above below.
           ap (λ (x : List ℕ). row_at x (row_of i q)) e
           ∙ elim (ℕ_discrete q p) [
-            | yes d ↦ ap (λ (x : ℕ). row_at (written book (recordBytes * row_of i p) row) (row_of i x)) d ∙ row_same book row (row_of i p) whole fits ∙ ap (block_row (rows s) i) (sym d)
-            | no d ↦ row_other book row (row_of i p) whole fits (row_of i q) (omega arith) ∙ w.done q above (omega arith)
+            | yes d ↦ ap (λ (x : ℕ). row_at (written book (record_bytes * row_of i p) row) (row_of i x)) d ∙ row_same book row (row_of i p) whole fits ∙ ap (block_row (rows s) i) (sym d)
+            | no d ↦ row_other_lem book row (row_of i p) whole fits (row_of i q) (omega arith) ∙ w.done q above (omega arith)
           ];
       kept =
           λ f m.
           let apart : f ≢ row_of i p = ⊎_elim (λ x. omega arith) (λ x. omega arith) m in
           let free : (f < capacity * i) ⊎ (capacity * i + p ≤ suc f) = ⊎_elim (λ x. inl x) (λ x. inr (omega arith)) m in
-          ap (λ (x : List ℕ). row_at x f) e ∙ row_other book row (row_of i p) whole fits f apart ∙ w.kept f free;
+          ap (λ (x : List ℕ). row_at x f) e ∙ row_other_lem book row (row_of i p) whole fits f apart ∙ w.kept f free;
     }
 
 pub entered_all : {before book : List ℕ} {i : ℕ} {s : State} {p : ℕ} → Entered before i s p book → p ≡ s.count + 1 → Paged before i s book
@@ -96,27 +96,27 @@ entered_all w end =
 
 -- the rows of those below i are written, and the others hold nothing yet
 pub record Filled (h : Hall) (i : ℕ) (book : List ℕ) : Type 0 where
-  pub long : length book ≡ bookBytes
-  pub done : (j p : ℕ) → j < i → 1 ≤ p → p ≤ capacity → row_at book (row_of j p) ≡ heldRow h j p
-  pub rest : (j p : ℕ) → i ≤ j → j < mostGateways → 1 ≤ p → p ≤ capacity → row_at book (row_of j p) ≡ no_row
+  pub long : length book ≡ book_bytes
+  pub done : (j p : ℕ) → j < i → 1 ≤ p → p ≤ capacity → row_at book (row_of j p) ≡ held_row h j p
+  pub rest : (j p : ℕ) → i ≤ j → j < most_gateways → 1 ≤ p → p ≤ capacity → row_at book (row_of j p) ≡ no_row
 
-pub filled_none : (h : Hall) (book : List ℕ) → book ≡ replicate bookBytes 0 → Filled h 0 book
+pub filled_none : (h : Hall) (book : List ℕ) → book ≡ replicate book_bytes 0 → Filled h 0 book
 filled_none h book e =
     record {
-      long = ap length e ∙ length-replicate {A = ℕ} bookBytes 0;
+      long = ap length e ∙ length-replicate {A = ℕ} book_bytes 0;
       done = λ j p l pos low. absurd (omega arith);
-      rest = λ j p l below pos low. ap (λ (x : List ℕ). row_at x (row_of j p)) e ∙ zero_row bookBytes (row_of j p) (omega arith);
+      rest = λ j p l below pos low. ap (λ (x : List ℕ). row_at x (row_of j p)) e ∙ zero_row book_bytes (row_of j p) (omega arith);
     }
 
 -- one gateway more: of one that isn't honest there is nothing to write
-pub filled-skip : {h : Hall} {i : ℕ} {book : List ℕ} → Filled h i book → i < mostGateways → honestIn h i ≡ false → Filled h (i + 1) book
+pub filled-skip : {h : Hall} {i : ℕ} {book : List ℕ} → Filled h i book → i < most_gateways → honest_in h i ≡ false → Filled h (i + 1) book
 filled-skip {h} {i} {book} w low k =
     record {
       long = w.long;
       done =
           λ j p l pos most.
           elim (ℕ_discrete j i) [
-            | yes d ↦ w.rest j p (omega arith) (omega arith) pos most ∙ sym (held-faulty h j p (ap (honestIn h) d ∙ k))
+            | yes d ↦ w.rest j p (omega arith) (omega arith) pos most ∙ sym (held-faulty h j p (ap (honest_in h) d ∙ k))
             | no d ↦ w.done j p (omega arith) pos most
           ];
       rest = λ j p l. w.rest j p (omega arith);
@@ -125,18 +125,18 @@ filled-skip {h} {i} {book} w low k =
 -- .. and of an honest one every block's row
 module _ {h : Hall} (k : Kept h) where
   -- the state of a seat is its gateway's
-  pub seat-is : (i : ℕ) (d : State) → i < mostGateways → get_or h.states i d ≡ gateway h i
+  pub seat-is : (i : ℕ) (d : State) → i < most_gateways → get_or h.states i d ≡ gateway h i
   unfolding gateway
-  seat-is i d l = get_d_any h.states i d allZero (omega (arith, k.seats))
+  seat-is i d l = get_d_any h.states i d all_zero (omega (arith, k.seats))
 
-  pub honest-count : (i : ℕ) → honestIn h i ≡ true → (gateway h i).count ≤ capacity
+  pub honest-count : (i : ℕ) → honest_in h i ≡ true → (gateway h i).count ≤ capacity
   honest-count i e = shaped-count (gateway h i) (k.shaped i (k.low i e))
 
-  pub seat-low : (i : ℕ) (d : State) → i < mostGateways → honestIn h i ≡ true → (get_or h.states i d).count ≤ capacity
+  pub seat-low : (i : ℕ) (d : State) → i < most_gateways → honest_in h i ≡ true → (get_or h.states i d).count ≤ capacity
   seat-low i d l e = subst (λ (s : State). s.count ≤ capacity) (sym (seat-is i d l)) (honest-count i e)
 
-  module _ {i : ℕ} {book after : List ℕ} (w : Filled h i book) (low : i < mostGateways) (e : honestIn h i ≡ true) where
-    this-row : Paged book i (gateway h i) after → (p : ℕ) → 1 ≤ p → p ≤ capacity → row_at after (row_of i p) ≡ heldRow h i p
+  module _ {i : ℕ} {book after : List ℕ} (w : Filled h i book) (low : i < most_gateways) (e : honest_in h i ≡ true) where
+    this-row : Paged book i (gateway h i) after → (p : ℕ) → 1 ≤ p → p ≤ capacity → row_at after (row_of i p) ≡ held_row h i p
     unfolding table_of
     this-row new p pos m =
         elim (dec_lt (gateway h i).count p) [
@@ -151,7 +151,7 @@ module _ {h : Hall} (k : Kept h) where
           done =
               λ j p l pos m.
               elim (ℕ_discrete j i) [
-                | yes d ↦ subst (λ (x : ℕ). row_at after (row_of x p) ≡ heldRow h x p) (sym d) (this-row new p pos m)
+                | yes d ↦ subst (λ (x : ℕ). row_at after (row_of x p) ≡ held_row h x p) (sym d) (this-row new p pos m)
                 | no d ↦ new.kept (row_of j p) (inl (omega arith)) ∙ w.done j p (omega arith) pos m
               ];
           rest = λ j p l below pos m. new.kept (row_of j p) (inr (omega (arith, honest-count i e))) ∙ w.rest j p (omega arith) below pos m;
@@ -160,7 +160,7 @@ module _ {h : Hall} (k : Kept h) where
     pub filled_more : (d : State) → Paged book i (get_or h.states i d) after → Filled h (i + 1) after
     filled_more d new = filled-page (subst (λ (s : State). Paged book i s after) (seat-is i d low) new)
 
-  pub filled-all : {i : ℕ} {book : List ℕ} → Filled h i book → mostGateways ≤ i
+  pub filled-all : {i : ℕ} {book : List ℕ} → Filled h i book → most_gateways ≤ i
       → ((j : ℕ) → j < length h.states → 0 < length (gateway h j).blocks → (p : ℕ) → Whole (at (table_of h j) p)) → Pages h book
   filled-all w e whole =
       record {

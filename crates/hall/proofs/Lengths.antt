@@ -13,7 +13,7 @@ use denote.Laws.{Is}
 use denote.Array.{each}
 use Rattle.table.specs.declared.Block.{Block}
 use Rattle.table.specs.declared.State.{State}
-use Rattle.table.specs.Rows.{nameBytes, payloadBytes, blank, allZero, rows, size, at}
+use Rattle.table.specs.Rows.{name_bytes, payload_bytes, blank, all_zero, rows, size, at}
 use Rattle.table.proofs.Laws.{length-unmap, size-rows, at_rows, at-past}
 use Rattle.table.specs.contracts.Block as block
 use Rattle.table.specs.contracts.State as state
@@ -36,8 +36,8 @@ each_at R to d (x ∷ xs) (u ∷ us) s (suc k) l = each_at R to d xs us s.1 k (l
 block-whole : (b : Block) (vs : List Val) → Is block.the_row b vs → Whole b
 block-whole b vs g =
     record {
-      name = length-unmap (λ v. v) b.name nameBytes g.1.1.0.1.0.1;
-      payload = length-unmap (λ v. v) b.payload payloadBytes g.1.1.1.0.1.0.1;
+      name = length-unmap (λ v. v) b.name name_bytes g.1.1.0.1.0.1;
+      payload = length-unmap (λ v. v) b.payload payload_bytes g.1.1.1.0.1.0.1;
     }
 
 -- each row that a state has
@@ -61,5 +61,5 @@ pub hall-whole : (h : Hall) (vs : List Val) → Is hall.the_row h vs → (i : �
     → (p : ℕ) → Whole (at (table_of h i) p)
 unfolding gateway table_of
 hall-whole h vs g i l =
-    let (u, s) = each_at (state.the_field).row (state.the_type).to allZero h.states g.1.1.0.0 g.1.1.0.1.1 i l in
-    table-whole (get_or h.states i allZero) (u ∷ []) s
+    let (u, s) = each_at (state.the_field).row (state.the_type).to all_zero h.states g.1.1.0.0 g.1.1.0.1.1 i l in
+    table-whole (get_or h.states i all_zero) (u ∷ []) s

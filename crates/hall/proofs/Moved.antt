@@ -6,26 +6,26 @@ use mathlib.Core.Path.{◌≡◌, sym, ap, subst, subst₂, ◌∙◌}
 use native.Mathlib.Omega.{arith}
 use lib.ListN.{length, set}
 use Rattle.table.specs.declared.State.{State}
-use Rattle.table.specs.Rows.{capacity, nameBytes, rows}
+use Rattle.table.specs.Rows.{capacity, name_bytes, rows}
 use Rattle.pala.specs.Answers.{taken}
-use Rattle.pala.specs.Lists.{finalNames, joined}
-use Rattle.pala.specs.Record.{recordBytes, kind_of, senderOf}
-use Rattle.pala.specs.Run.{fullList, lent}
-use Rattle.pala.specs.Shape.{wellShaped}
+use Rattle.pala.specs.Lists.{final_names, joined}
+use Rattle.pala.specs.Record.{record_bytes, kind_of, sender_of}
+use Rattle.pala.specs.Run.{full_list, lent}
+use Rattle.pala.specs.Shape.{well_shaped}
 use Rattle.pala.proofs.Playing.{Playable, step-playable, names-stay}
 use Rattle.record.specs.declared.Fields.{Fields}
 use Rattle.record.specs.Fields.{fields_of}
 use Rattle.node.specs.declared.Decision.{Decision}
-use Rattle.node.specs.Moves.{placeFor}
+use Rattle.node.specs.Moves.{place_for}
 use Rattle.node.proofs.Calls.{decided-answer, granted}
 use Rattle.lines.specs.Text.{written}
 use Rattle.accord.specs.declared.Hall.{Hall}
-use Rattle.accord.specs.Head.{mostGateways, gateway}
+use Rattle.accord.specs.Head.{most_gateways, gateway}
 use Rattle.accord.specs.Rulings.{seated}
 use Rattle.accord.specs.Words.{agree}
 use Rattle.hall.specs.Kept.{Kept}
 use Rattle.hall.specs.Book.{Pages, block_row, row_of, touched}
-use Rattle.hall.specs.Lists.{Listed, agreeIn}
+use Rattle.hall.specs.Lists.{Listed, agree_in}
 use Rattle.hall.specs.Play.{Live, Moving}
 use Rattle.hall.proofs.Agreeing.{agree-is, agree_same, listed_same, listed-written}
 use Rattle.hall.proofs.Entering.{touched-low, touched-most, pages-kept, pages-entered}
@@ -38,19 +38,19 @@ module _
     inside : i < h.n
     inside = m.live.kept.low i m.own
 
-    pub seat-most : i < mostGateways
+    pub seat-most : i < most_gateways
     seat-most = omega (arith, inside, m.live.kept.most)
 
     playable : Playable (gateway h i)
     playable = record { places = m.live.kept.places i inside; shaped = m.live.kept.shaped i inside }
 
-    pub moved-shaped : wellShaped s ≡ true
-    moved-shaped = subst (λ x. wellShaped x ≡ true) (sym m.new) (step-playable (gateway h i) r lent playable).shaped
+    pub moved-shaped : well_shaped s ≡ true
+    moved-shaped = subst (λ x. well_shaped x ≡ true) (sym m.new) (step-playable (gateway h i) r lent playable).shaped
 
     -- ---- the book: the row of the place that was decided for, where there is one
 
     module _ {p : ℕ} (place : p ≡ touched i d.fields.kind d.fields.sender.0 d.place.0 s.count) where
-      touches : p ≡ touched i (kind_of r) (senderOf r) (placeFor (gateway h i) r) s.count
+      touches : p ≡ touched i (kind_of r) (sender_of r) (place_for (gateway h i) r) s.count
       unfolding fields_of
       touches =
           let takes : taken d.answer ≡ true =
@@ -58,7 +58,7 @@ module _
           let g = granted (gateway h i) r m.decided takes in
           place
           ∙ ap (λ (f : Fields). touched i f.kind f.sender.0 d.place.0 s.count) g.fields
-          ∙ ap (λ (q : ℕ). touched i (kind_of r) (senderOf r) q s.count) g.there
+          ∙ ap (λ (q : ℕ). touched i (kind_of r) (sender_of r) q s.count) g.there
 
       pub place-low : p ≤ s.count
       place-low = touched-low m.live.kept m.live.pages i m.own r m.takes s m.new p touches
@@ -66,7 +66,7 @@ module _
       pub place-most : s.count ≤ capacity
       place-most = touched-most m.live.kept m.live.pages i m.own r m.takes s m.new p touches
 
-      pub book-entered : 0 < p → Pages (seated h i s) (written book (recordBytes * row_of i p) (block_row (rows s) i p))
+      pub book-entered : 0 < p → Pages (seated h i s) (written book (record_bytes * row_of i p) (block_row (rows s) i p))
       book-entered = pages-entered m.live.kept m.live.pages i m.own r m.takes s m.new p touches
 
       pub book-kept : p ≤ 0 → Pages (seated h i s) book
@@ -87,22 +87,22 @@ module _
 
     pub move-still : {book' : List ℕ} → Pages (seated h i s) book' → s.kept.0 ≡ kept → Live (seated h i s) book' lists counts word
     move-still pages e =
-        let names : finalNames s ≡ finalNames (gateway h i) =
-        ap finalNames m.new ∙ names-stay (gateway h i) r lent playable (ap (λ (x : State). x.kept.0) (sym m.new) ∙ e ∙ m.was) in
+        let names : final_names s ≡ final_names (gateway h i) =
+        ap final_names m.new ∙ names-stay (gateway h i) r lent playable (ap (λ (x : State). x.kept.0) (sym m.new) ∙ e ∙ m.was) in
         move pages (listed_same m.live.kept m.live.listed i inside s names)
         (m.live.says ∙ sym (agree_same m.live.kept m.live.listed i inside s names))
 
     module _
         {after : List ℕ} {count : ℕ}
-        (l : (count ≡ length (finalNames s)) × (count ≤ capacity) × (after ≡ written lists (fullList * i) (joined (finalNames s))) × (length (joined (finalNames s)) ≡ nameBytes * count))
+        (l : (count ≡ length (final_names s)) × (count ≤ capacity) × (after ≡ written lists (full_list * i) (joined (final_names s))) × (length (joined (final_names s)) ≡ name_bytes * count))
       where
         pub listed-anew : Listed (seated h i s) after (set counts i count)
         listed-anew =
             subst₂ (λ x n. Listed (seated h i s) x (set counts i n)) (sym l.2) (sym l.0)
-            (listed-written m.live.kept m.live.listed i inside s (omega (arith, l.0, l.1)) (l.3 ∙ ap (λ (n : ℕ). nameBytes * n) l.0))
+            (listed-written m.live.kept m.live.listed i inside s (omega (arith, l.0, l.1)) (l.3 ∙ ap (λ (n : ℕ). name_bytes * n) l.0))
 
         pub move-listed :
-            {book' : List ℕ} {word' : Bool} → Pages (seated h i s) book' → word' ≡ agreeIn after (set counts i count) honest
+            {book' : List ℕ} {word' : Bool} → Pages (seated h i s) book' → word' ≡ agree_in after (set counts i count) honest
             → Live (seated h i s) book' after (set counts i count) word'
         unfolding seated
-        move-listed pages says = move pages listed-anew (says ∙ ap (agreeIn after (set counts i count)) m.flags ∙ agree-is listed-anew)
+        move-listed pages says = move pages listed-anew (says ∙ ap (agree_in after (set counts i count)) m.flags ∙ agree-is listed-anew)

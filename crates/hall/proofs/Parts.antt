@@ -8,7 +8,7 @@ use borrow.Author.Tests.{not-true}
 use lib.ListN.{length, take, drop, length-append, length-take, length-drop, take-append-drop}
 use lib.Seq.{length-take-le, take-length, take-append-le, drop-append-le, drop-append-add, drop_at, drop-drop}
 use Rattle.table.specs.Scan.{all_below}
-use Rattle.table.proofs.Laws.{fails, not-both, same_test, allBelow-at, allBelow-all, allBelow-step}
+use Rattle.table.proofs.Laws.{fails, not-both, same_test, all_below-at, all_below-all, all_below-step}
 use Rattle.pala.proofs.Shapes
 use Rattle.lines.specs.Text.{written}
 
@@ -16,17 +16,17 @@ use Rattle.lines.specs.Text.{written}
 
 -- one that fails is enough
 pub below_fails : (k : ℕ) (ok : ℕ → Bool) (i : ℕ) (r : Bool) → i < k → r ≡ ok i → not r ≡ true → false ≡ all_below k ok
-below_fails k ok i r l e f = sym (fails (all_below k ok) (λ h. not-both (e ∙ allBelow-at k ok h i l) (not-true r f)))
+below_fails k ok i r l e f = sym (fails (all_below k ok) (λ h. not-both (e ∙ all_below-at k ok h i l) (not-true r f)))
 
 -- one more passes
 pub below_next : (k : ℕ) (ok : ℕ → Bool) → all_below k ok ≡ true → ok k ≡ true → all_below (k + 1) ok ≡ true
-below_next k ok h e = allBelow-step k ok ∙ Shapes.and_both (all_below k ok) (ok k) h e
+below_next k ok h e = all_below-step k ok ∙ Shapes.and_both (all_below k ok) (ok k) h e
 
 -- tests that are the same of each number
 pub below_alike : (k : ℕ) (f g : ℕ → Bool) → ((i : ℕ) → i < k → f i ≡ g i) → all_below k f ≡ all_below k g
 below_alike k f g e =
-    same_test (all_below k f) (all_below k g) (λ h. allBelow-all k g (λ i l. sym (e i l) ∙ allBelow-at k f h i l))
-    (λ h. allBelow-all k f (λ i l. e i l ∙ allBelow-at k g h i l))
+    same_test (all_below k f) (all_below k g) (λ h. all_below-all k g (λ i l. sym (e i l) ∙ all_below-at k f h i l))
+    (λ h. all_below-all k f (λ i l. e i l ∙ all_below-at k g h i l))
 
 -- ---- parts
 

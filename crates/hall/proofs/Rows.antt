@@ -15,28 +15,28 @@ use Rattle.table.specs.declared.Block.{Block}
 use Rattle.table.specs.declared.State.{State}
 use Rattle.table.specs.Scan.{pick}
 use Rattle.table.specs.Bytes.{same}
-use Rattle.table.specs.Rows.{capacity, nameBytes, payloadBytes, rows, at, hasVoter}
+use Rattle.table.specs.Rows.{capacity, name_bytes, payload_bytes, rows, at, has_voter}
 use Rattle.table.proofs.Laws.{not-both, pick_yes, pick-case, at_rows, same_differs}
-use Rattle.pala.specs.Record.{recordBytes, kind_of, senderOf, name_of, message, proposalHeard}
-use Rattle.pala.specs.Rules.{epochAt, lower, parent_of}
+use Rattle.pala.specs.Record.{record_bytes, kind_of, sender_of, name_of, message, proposal_heard}
+use Rattle.pala.specs.Rules.{epoch_at, lower, parent_of}
 use Rattle.pala.proofs.Sent.{message-length}
 use Rattle.lines.specs.Text.{written}
 use Rattle.lines.proofs.Laws.{length-written}
-use Rattle.accord.specs.Rulings.{anyBelow}
+use Rattle.accord.specs.Rulings.{any_below}
 use Rattle.accord.proofs.Scans.{any_none}
 use Rattle.hall.proofs.Parts.{part-here, part-before, part-after}
-use Rattle.hall.specs.Book.{row_at, block_row, no_row, rowNamed, rowShows, rowOther}
+use Rattle.hall.specs.Book.{row_at, block_row, no_row, row_named, row_shows, row_other}
 
 -- ---- searches
 
 -- none so far, and not this one
-pub any-more : (k : ℕ) (ok : ℕ → Bool) → anyBelow k ok ≡ false → ok k ≡ false → anyBelow (k + 1) ok ≡ false
-unfolding anyBelow
-any-more k ok a b = ap (λ (j : ℕ). anyBelow j ok) (add-one k) ∙ ap (λ (x : Bool). x || ok k) a ∙ b
+pub any-more : (k : ℕ) (ok : ℕ → Bool) → any_below k ok ≡ false → ok k ≡ false → any_below (k + 1) ok ≡ false
+unfolding any_below
+any-more k ok a b = ap (λ (j : ℕ). any_below j ok) (add-one k) ∙ ap (λ (x : Bool). x || ok k) a ∙ b
 
 -- this one
-pub any-yes : (n k : ℕ) (ok : ℕ → Bool) → k < n → ok k ≡ true → anyBelow n ok ≡ true
-any-yes n k ok l h = holds (anyBelow n ok) (λ e. not-both h (any_none n ok e k l))
+pub any-yes : (n k : ℕ) (ok : ℕ → Bool) → k < n → ok k ≡ true → any_below n ok ≡ true
+any-yes n k ok l h = holds (any_below n ok) (λ e. not-both h (any_none n ok e k l))
   where
     holds : (b : Bool) → (b ≡ false → ⊥) → b ≡ true
     holds true f = refl
@@ -46,47 +46,47 @@ any-yes n k ok l h = holds (anyBelow n ok) (λ e. not-both h (any_none n ok e k 
 
 -- no mark, no block, or the name decides
 module _ (row name : List ℕ) where
-  pub shows-no-vote : (senderOf row ≡ 1 → ⊥) → rowShows row name ≡ false
-  unfolding rowShows
-  shows-no-vote h = ap (λ (t : Bool). t && rowNamed row name) (ne_eqb (senderOf row) 1 h)
+  pub shows-no-vote : (sender_of row ≡ 1 → ⊥) → row_shows row name ≡ false
+  unfolding row_shows
+  shows-no-vote h = ap (λ (t : Bool). t && row_named row name) (ne_eqb (sender_of row) 1 h)
 
-  pub shows-no-block : (kind_of row ≡ 1 → ⊥) → senderOf row ≡ 1 → rowShows row name ≡ false
-  unfolding rowShows rowNamed
+  pub shows-no-block : (kind_of row ≡ 1 → ⊥) → sender_of row ≡ 1 → row_shows row name ≡ false
+  unfolding row_shows row_named
   shows-no-block h s =
-      ap (λ (t : Bool). t && rowNamed row name) (eq-eqb (senderOf row) 1 s) ∙ ap (λ (t : Bool). t && same (name_of row) name) (ne_eqb (kind_of row) 1 h)
+      ap (λ (t : Bool). t && row_named row name) (eq-eqb (sender_of row) 1 s) ∙ ap (λ (t : Bool). t && same (name_of row) name) (ne_eqb (kind_of row) 1 h)
 
-  pub shows-name : senderOf row ≡ 1 → kind_of row ≡ 1 → rowShows row name ≡ same (take nameBytes (drop 8 row)) name
-  unfolding rowShows rowNamed name_of
+  pub shows-name : sender_of row ≡ 1 → kind_of row ≡ 1 → row_shows row name ≡ same (take name_bytes (drop 8 row)) name
+  unfolding row_shows row_named name_of
   shows-name s k =
-      ap (λ (t : Bool). t && rowNamed row name) (eq-eqb (senderOf row) 1 s) ∙ ap (λ (t : Bool). t && same (name_of row) name) (eq-eqb (kind_of row) 1 k)
+      ap (λ (t : Bool). t && row_named row name) (eq-eqb (sender_of row) 1 s) ∙ ap (λ (t : Bool). t && same (name_of row) name) (eq-eqb (kind_of row) 1 k)
 
 -- no block, another name, or the bytes from the epoch on decide
 module _ (row x : List ℕ) where
   abbrev one_name : Bool
-  one_name = same (take nameBytes (drop 8 row)) (take nameBytes (drop 8 x))
+  one_name = same (take name_bytes (drop 8 row)) (take name_bytes (drop 8 x))
 
-  pub other-no-byte : (get_or row 8 0 ≡ get_or x 8 0 → ⊥) → rowOther row x ≡ false
-  unfolding rowOther rowNamed name_of
+  pub other-no-byte : (get_or row 8 0 ≡ get_or x 8 0 → ⊥) → row_other row x ≡ false
+  unfolding row_other row_named name_of
   other-no-byte h =
-      let first : (r : List ℕ) → get_or (take nameBytes (drop 8 r)) 0 0 ≡ get_or r 8 0 = λ r. get_or-take nameBytes (drop 8 r) 0 0 (omega arith) ∙ get_or-drop 8 r 0 0 in
-      let names : one_name ≡ false = same_differs (take nameBytes (drop 8 row)) (take nameBytes (drop 8 x)) 0 (λ e. h (sym (first row) ∙ e ∙ first x)) in
+      let first : (r : List ℕ) → get_or (take name_bytes (drop 8 r)) 0 0 ≡ get_or r 8 0 = λ r. get_or-take name_bytes (drop 8 r) 0 0 (omega arith) ∙ get_or-drop 8 r 0 0 in
+      let names : one_name ≡ false = same_differs (take name_bytes (drop 8 row)) (take name_bytes (drop 8 x)) 0 (λ e. h (sym (first row) ∙ e ∙ first x)) in
       ap (λ (t : Bool). eqb (kind_of row) 1 && t && not (same (drop 4 row) (drop 4 x))) names
       ∙ ap (λ (t : Bool). t && not (same (drop 4 row) (drop 4 x))) (and-false (eqb (kind_of row) 1))
 
-  pub other-no-block : (kind_of row ≡ 1 → ⊥) → rowOther row x ≡ false
-  unfolding rowOther rowNamed
+  pub other-no-block : (kind_of row ≡ 1 → ⊥) → row_other row x ≡ false
+  unfolding row_other row_named
   other-no-block h = ap (λ (t : Bool). t && one_name && not (same (drop 4 row) (drop 4 x))) (ne_eqb (kind_of row) 1 h)
 
-  pub other-no-name : kind_of row ≡ 1 → one_name ≡ false → rowOther row x ≡ false
-  unfolding rowOther rowNamed name_of
+  pub other-no-name : kind_of row ≡ 1 → one_name ≡ false → row_other row x ≡ false
+  unfolding row_other row_named name_of
   other-no-name k n =
       ap (λ (t : Bool). t && one_name && not (same (drop 4 row) (drop 4 x))) (eq-eqb (kind_of row) 1 k)
       ∙ ap (λ (t : Bool). t && not (same (drop 4 row) (drop 4 x))) n
 
   pub other-rest :
-      kind_of row ≡ 1 → one_name ≡ true → length row ≡ recordBytes → length x ≡ recordBytes
-      → rowOther row x ≡ not (same (take 92 (drop 4 row)) (take 92 (drop 4 x)))
-  unfolding rowOther rowNamed name_of
+      kind_of row ≡ 1 → one_name ≡ true → length row ≡ record_bytes → length x ≡ record_bytes
+      → row_other row x ≡ not (same (take 92 (drop 4 row)) (take 92 (drop 4 x)))
+  unfolding row_other row_named name_of
   other-rest k n l m =
       ap (λ (t : Bool). t && one_name && not (same (drop 4 row) (drop 4 x))) (eq-eqb (kind_of row) 1 k)
       ∙ ap (λ (t : Bool). t && not (same (drop 4 row) (drop 4 x))) n
@@ -95,31 +95,31 @@ module _ (row x : List ℕ) where
 -- ---- a row's bytes
 
 -- a part of the book of 96 bytes is a row
-pub part-row : (book : List ℕ) (e : ℕ) → take (recordBytes * e + recordBytes - recordBytes * e) (drop (recordBytes * e) book) ≡ row_at book e
+pub part-row : (book : List ℕ) (e : ℕ) → take (record_bytes * e + record_bytes - record_bytes * e) (drop (record_bytes * e) book) ≡ row_at book e
 part-row book e =
-    let whole : recordBytes * e + recordBytes - recordBytes * e ≡ recordBytes = omega arith in
-    ap (λ (k : ℕ). take k (drop (recordBytes * e) book)) whole
+    let whole : record_bytes * e + record_bytes - record_bytes * e ≡ record_bytes = omega arith in
+    ap (λ (k : ℕ). take k (drop (record_bytes * e) book)) whole
 
-row-byte : (book : List ℕ) (e k : ℕ) → k < recordBytes → get_or (row_at book e) k 0 ≡ get_or book (recordBytes * e + k) 0
-row-byte book e k l = get_or-take recordBytes (drop (recordBytes * e) book) k 0 l ∙ get_or-drop (recordBytes * e) book k 0
+row-byte : (book : List ℕ) (e k : ℕ) → k < record_bytes → get_or (row_at book e) k 0 ≡ get_or book (record_bytes * e + k) 0
+row-byte book e k l = get_or-take record_bytes (drop (record_bytes * e) book) k 0 l ∙ get_or-drop (record_bytes * e) book k 0
 
-row-size : (book : List ℕ) (e : ℕ) → length (row_at book e) ≡ min recordBytes (length book - recordBytes * e)
+row-size : (book : List ℕ) (e : ℕ) → length (row_at book e) ≡ min record_bytes (length book - record_bytes * e)
 row-size book e =
-    length-take recordBytes (drop (recordBytes * e) book) ∙ ap (min recordBytes) (length-drop (recordBytes * e) book)
+    length-take record_bytes (drop (record_bytes * e) book) ∙ ap (min record_bytes) (length-drop (record_bytes * e) book)
 
-row-long : (book : List ℕ) (e : ℕ) → recordBytes * e + recordBytes ≤ length book → length (row_at book e) ≡ recordBytes
+row-long : (book : List ℕ) (e : ℕ) → record_bytes * e + record_bytes ≤ length book → length (row_at book e) ≡ record_bytes
 row-long book e fits = omega (arith, row-size book e)
 
 -- in a book of zeros every row is one of zeros
-pub zero_row : (n e : ℕ) → recordBytes * e + recordBytes ≤ n → row_at (replicate n 0) e ≡ no_row
+pub zero_row : (n e : ℕ) → record_bytes * e + record_bytes ≤ n → row_at (replicate n 0) e ≡ no_row
 unfolding no_row
 zero_row n e fits =
-    let long : length (row_at (replicate n 0) e) ≡ recordBytes = row-long (replicate n 0) e (omega (arith, length-replicate {A = ℕ} n 0)) in
-    ext_get_or 0 (row_at (replicate n 0) e) (replicate recordBytes 0) (long ∙ sym (length-replicate {A = ℕ} recordBytes 0))
+    let long : length (row_at (replicate n 0) e) ≡ record_bytes = row-long (replicate n 0) e (omega (arith, length-replicate {A = ℕ} n 0)) in
+    ext_get_or 0 (row_at (replicate n 0) e) (replicate record_bytes 0) (long ∙ sym (length-replicate {A = ℕ} record_bytes 0))
     (λ k l.
     row-byte (replicate n 0) e k (omega arith)
-    ∙ get_or-replicate {A = ℕ} n (recordBytes * e + k) 0 0 (omega arith)
-    ∙ sym (get_or-replicate {A = ℕ} recordBytes k 0 0 (omega arith)))
+    ∙ get_or-replicate {A = ℕ} n (record_bytes * e + k) 0 0 (omega arith)
+    ∙ sym (get_or-replicate {A = ℕ} record_bytes k 0 0 (omega arith)))
 
 -- ---- a row written
 
@@ -139,19 +139,19 @@ module _ (s : State) (d : Block) (i p q : ℕ) (places : length s.blocks ≡ suc
   abbrev b : Block
   b = get_or s.blocks p d
 
-  place-row : message proposalHeard (pick (hasVoter b i) 1 0) b.epoch.0 b.name (get_or s.blocks q d).name b.payload ≡ block_row (rows s) i p
-  unfolding block_row epochAt parent_of lower
+  place-row : message proposal_heard (pick (has_voter b i) 1 0) b.epoch.0 b.name (get_or s.blocks q d).name b.payload ≡ block_row (rows s) i p
+  unfolding block_row epoch_at parent_of lower
   place-row =
       let below : q < p = parent-low s d p q pos e in
       let it : at (rows s) p ≡ b = at_rows s p d low (omega arith) in
       let up : q ≡ parent_of (rows s) p = e ∙ ap (λ (x : Block). pick (ltb x.parent.0 p) x.parent.0 0) (sym it) in
       let named : get_or s.blocks q d ≡ at (rows s) (parent_of (rows s) p) = sym (at_rows s q d (omega arith) (omega arith)) ∙ ap (at (rows s)) up in
-      ap (λ (x : Block). message proposalHeard (pick (hasVoter b i) 1 0) b.epoch.0 b.name x.name b.payload) named
-      ∙ ap (λ (x : Block). message proposalHeard (pick (hasVoter x i) 1 0) x.epoch.0 x.name (at (rows s) (parent_of (rows s) p)).name x.payload) (sym it)
+      ap (λ (x : Block). message proposal_heard (pick (has_voter b i) 1 0) b.epoch.0 b.name x.name b.payload) named
+      ∙ ap (λ (x : Block). message proposal_heard (pick (has_voter x i) 1 0) x.epoch.0 x.name (at (rows s) (parent_of (rows s) p)).name x.payload) (sym it)
 
   pub place-written :
       (book after : List ℕ) (from : ℕ)
-      → after ≡ written book from (message proposalHeard (pick (hasVoter b i) 1 0) b.epoch.0 b.name (get_or s.blocks q d).name b.payload)
+      → after ≡ written book from (message proposal_heard (pick (has_voter b i) 1 0) b.epoch.0 b.name (get_or s.blocks q d).name b.payload)
       → after ≡ written book from (block_row (rows s) i p)
   place-written book after from w = w ∙ ap (written book from) place-row
 
@@ -166,40 +166,40 @@ module _ (book : List ℕ) (from : ℕ) where
 
   -- a block's message put in the place of a row
   pub message-written :
-      (part name parent payload : List ℕ) (m e : ℕ) (own : Bool) → from + recordBytes ≤ length book
-      → length name ≡ nameBytes → length parent ≡ nameBytes → length payload ≡ payloadBytes → m ≡ pick own 1 0
-      → let k = from + recordBytes - from in
-      part ≡ pick (eqb (length (take k (drop from book))) recordBytes) (message proposalHeard (m % 256) e name parent payload) (take k (drop from book))
-      → take from book ++ (part ++ drop k (drop from book)) ≡ written book from (message proposalHeard (pick own 1 0) e name parent payload)
+      (part name parent payload : List ℕ) (m e : ℕ) (own : Bool) → from + record_bytes ≤ length book
+      → length name ≡ name_bytes → length parent ≡ name_bytes → length payload ≡ payload_bytes → m ≡ pick own 1 0
+      → let k = from + record_bytes - from in
+      part ≡ pick (eqb (length (take k (drop from book))) record_bytes) (message proposal_heard (m % 256) e name parent payload) (take k (drop from book))
+      → take from book ++ (part ++ drop k (drop from book)) ≡ written book from (message proposal_heard (pick own 1 0) e name parent payload)
   message-written part name parent payload m e own fits a b c mark w =
-      let k = from + recordBytes - from in
-      let whole : k ≡ recordBytes = omega arith in
-      let size : length (take k (drop from book)) ≡ recordBytes = omega (arith, length-take k (drop from book), length-drop from book) in
-      part-written (message proposalHeard (pick own 1 0) e name parent payload) part k
-      (whole ∙ sym (message-length proposalHeard (pick own 1 0) e name parent payload a b c))
+      let k = from + record_bytes - from in
+      let whole : k ≡ record_bytes = omega arith in
+      let size : length (take k (drop from book)) ≡ record_bytes = omega (arith, length-take k (drop from book), length-drop from book) in
+      part-written (message proposal_heard (pick own 1 0) e name parent payload) part k
+      (whole ∙ sym (message-length proposal_heard (pick own 1 0) e name parent payload a b c))
       (w
-      ∙ pick_yes (eqb (length (take k (drop from book))) recordBytes) _ _ (eq-eqb _ _ size)
-      ∙ ap (λ (x : ℕ). message proposalHeard x e name parent payload) (ap (λ (x : ℕ). x % 256) mark ∙ mark-byte own))
+      ∙ pick_yes (eqb (length (take k (drop from book))) record_bytes) _ _ (eq-eqb _ _ size)
+      ∙ ap (λ (x : ℕ). message proposal_heard x e name parent payload) (ap (λ (x : ℕ). x % 256) mark ∙ mark-byte own))
 
 -- a row of 96 bytes written at row e
-module _ (book bytes : List ℕ) (e : ℕ) (whole : length bytes ≡ recordBytes) (fits : recordBytes * e + recordBytes ≤ length book) where
+module _ (book bytes : List ℕ) (e : ℕ) (whole : length bytes ≡ record_bytes) (fits : record_bytes * e + record_bytes ≤ length book) where
   abbrev after : List ℕ
-  after = written book (recordBytes * e) bytes
+  after = written book (record_bytes * e) bytes
 
-  within : recordBytes * e + length bytes ≤ length book
+  within : record_bytes * e + length bytes ≤ length book
   within = omega arith
 
   pub row-length : length after ≡ length book
-  row-length = length-written book (recordBytes * e) bytes within
+  row-length = length-written book (record_bytes * e) bytes within
 
   -- that row is those bytes
   pub row_same : row_at after e ≡ bytes
-  row_same = ap (λ (k : ℕ). take k (drop (recordBytes * e) after)) (sym whole) ∙ part-here book (recordBytes * e) bytes within
+  row_same = ap (λ (k : ℕ). take k (drop (record_bytes * e) after)) (sym whole) ∙ part-here book (record_bytes * e) bytes within
 
   -- every other is as it was
-  pub row_other : (f : ℕ) → f ≢ e → row_at after f ≡ row_at book f
-  row_other f d =
+  pub row_other_lem : (f : ℕ) → f ≢ e → row_at after f ≡ row_at book f
+  row_other_lem f d =
       elim (dec_lt f e) [
-        | yes m ↦ part-before book (recordBytes * e) bytes within (recordBytes * f) recordBytes (omega arith)
-        | no m ↦ ap (take recordBytes) (part-after book (recordBytes * e) bytes within (recordBytes * f) (omega arith))
+        | yes m ↦ part-before book (record_bytes * e) bytes within (record_bytes * f) record_bytes (omega arith)
+        | no m ↦ ap (take record_bytes) (part-after book (record_bytes * e) bytes within (record_bytes * f) (omega arith))
       ]

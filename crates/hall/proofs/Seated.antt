@@ -9,27 +9,27 @@ use borrow.Author.Tests.{leb-true, le-leb, lt-leb, lt-ltb, not-true}
 use lib.Dec.{ltb, leb}
 use lib.ListN.{length, get_or, length-set}
 use Rattle.table.specs.declared.State.{State}
-use Rattle.table.specs.Rows.{capacity, allZero}
+use Rattle.table.specs.Rows.{capacity, all_zero}
 use Rattle.table.specs.Scan.{all_below}
-use Rattle.table.proofs.Laws.{fails, not-both, pick-case, get_d_any, allBelow-at, allBelow-all}
+use Rattle.table.proofs.Laws.{fails, not-both, pick-case, get_d_any, all_below-at, all_below-all}
 use Rattle.pala.specs.Run.{lent}
-use Rattle.pala.specs.Shape.{wellShaped}
+use Rattle.pala.specs.Shape.{well_shaped}
 use Rattle.pala.specs.Step.{step}
 use Rattle.pala.proofs.Playing.{step-playable}
 use Rattle.pala.proofs.Tests.{and_l, and_r, or_l, or_r}
 use Rattle.pala.proofs.Shapes
 use Rattle.accord.specs.declared.Hall.{Hall}
-use Rattle.accord.specs.Head.{mostGateways, gateway, honestIn, hallShaped}
-use Rattle.accord.specs.Rulings.{verdict, passes, seated, hallAfter}
-use Rattle.accord.specs.Text.{receiverOf, recordOf, hallPlayed}
+use Rattle.accord.specs.Head.{most_gateways, gateway, honest_in, hall_shaped}
+use Rattle.accord.specs.Rulings.{verdict, passes, seated, hall_after}
+use Rattle.accord.specs.Text.{receiver_of, record_of, hall_played}
 use Rattle.accord.proofs.Halls.{allowed, honest-below, seated-same, seated-other}
 use Rattle.hall.specs.Kept.{Kept}
 
 -- ---- one gateway's state moved
 
 -- who is honest stays
-pub honest-same : (h : Hall) (i : ℕ) (t : State) (j : ℕ) → honestIn (seated h i t) j ≡ honestIn h j
-unfolding honestIn seated
+pub honest-same : (h : Hall) (i : ℕ) (t : State) (j : ℕ) → honest_in (seated h i t) j ≡ honest_in h j
+unfolding honest_in seated
 honest-same h i t j = refl
 
 -- what holds of the new state, and of a gateway before, holds of it after
@@ -48,10 +48,10 @@ module _ {h : Hall} (k : Kept h) where
   -- what is read at a seat is the gateway's state
   pub gateway-read : (i : ℕ) (d : State) → i < h.n → get_or h.states i d ≡ gateway h i
   unfolding gateway
-  gateway-read i d l = get_d_any h.states i d allZero (kept-seat i l)
+  gateway-read i d l = get_d_any h.states i d all_zero (kept-seat i l)
 
-  pub kept-seated : (i : ℕ) → i < h.n → (t : State) → length t.blocks ≡ suc capacity → wellShaped t ≡ true → Kept (seated h i t)
-  unfolding seated honestIn
+  pub kept-seated : (i : ℕ) → i < h.n → (t : State) → length t.blocks ≡ suc capacity → well_shaped t ≡ true → Kept (seated h i t)
+  unfolding seated honest_in
   kept-seated i l t places shaped =
       record {
         seats = length-set h.states i t ∙ k.seats;
@@ -60,7 +60,7 @@ module _ {h : Hall} (k : Kept h) where
         most = k.most;
         low = k.low;
         places = λ j m. seated-case (λ s. length s.blocks ≡ suc capacity) h i t (kept-seat i l) places j (k.places j m);
-        shaped = λ j m. seated-case (λ s. wellShaped s ≡ true) h i t (kept-seat i l) shaped j (k.shaped j m);
+        shaped = λ j m. seated-case (λ s. well_shaped s ≡ true) h i t (kept-seat i l) shaped j (k.shaped j m);
       }
 
   -- a state that a gateway's step gives
@@ -70,36 +70,36 @@ module _ {h : Hall} (k : Kept h) where
       kept-seated i l (step (gateway h i) r out).state next.places next.shaped
 
   -- the hall after a record, taken or not
-  pub kept-after : (to : ℕ) (r : List ℕ) → Kept (hallAfter h to r)
-  unfolding hallAfter
+  pub kept-after : (to : ℕ) (r : List ℕ) → Kept (hall_after h to r)
+  unfolding hall_after
   kept-after to r =
       pick-case Kept (passes (verdict h to r)) (seated h to (step (gateway h to) r lent).state) h
       (λ e. kept_step to (k.low to (allowed h to r e).honest) r lent) (λ _. k)
 
-pub kept-played : {h : Hall} → Kept h → (xs : List (List ℕ)) → Kept (hallPlayed h xs)
-unfolding hallPlayed
+pub kept-played : {h : Hall} → Kept h → (xs : List (List ℕ)) → Kept (hall_played h xs)
+unfolding hall_played
 kept-played k [] = k
-kept-played k (x ∷ xs) = kept-played (kept-after k (receiverOf x) (recordOf x)) xs
+kept-played k (x ∷ xs) = kept-played (kept-after k (receiver_of x) (record_of x)) xs
 
 -- ---- the shape of a hall
 
 module _ (h : Hall) where
   -- no number at or above n is honest
-  abbrev pub lowTest : Bool
-  lowTest = all_below mostGateways (λ i. ltb i h.n || not (honestIn h i))
+  abbrev pub low_test : Bool
+  low_test = all_below most_gateways (λ i. ltb i h.n || not (honest_in h i))
 
   -- every gateway's state is well shaped
-  abbrev pub soundTest : Bool
-  soundTest = all_below h.n (λ i. wellShaped (gateway h i))
+  abbrev pub sound_test : Bool
+  sound_test = all_below h.n (λ i. well_shaped (gateway h i))
 
   record Tests : Type 0 where
     some : leb 1 h.n ≡ true
-    most : leb h.n mostGateways ≡ true
-    low : lowTest ≡ true
-    sound : soundTest ≡ true
+    most : leb h.n most_gateways ≡ true
+    low : low_test ≡ true
+    sound : sound_test ≡ true
 
-  tests : hallShaped h ≡ true → Tests
-  unfolding hallShaped
+  tests : hall_shaped h ≡ true → Tests
+  unfolding hall_shaped
   tests e =
       record {
         some = search (and_l, and_r);
@@ -109,39 +109,39 @@ module _ (h : Hall) where
       }
 
   -- each test that fails
-  pub hall-none : h.n < 1 → hallShaped h ≡ false
-  hall-none l = fails (hallShaped h) (λ e. not-both (tests e).some (lt-leb 1 h.n l))
+  pub hall-none : h.n < 1 → hall_shaped h ≡ false
+  hall-none l = fails (hall_shaped h) (λ e. not-both (tests e).some (lt-leb 1 h.n l))
 
-  pub hall-many : mostGateways < h.n → hallShaped h ≡ false
-  hall-many l = fails (hallShaped h) (λ e. not-both (tests e).most (lt-leb h.n mostGateways l))
+  pub hall-many : most_gateways < h.n → hall_shaped h ≡ false
+  hall-many l = fails (hall_shaped h) (λ e. not-both (tests e).most (lt-leb h.n most_gateways l))
 
-  pub hall-high : lowTest ≡ false → hallShaped h ≡ false
-  hall-high f = fails (hallShaped h) (λ e. not-both (tests e).low f)
+  pub hall-high : low_test ≡ false → hall_shaped h ≡ false
+  hall-high f = fails (hall_shaped h) (λ e. not-both (tests e).low f)
 
   -- after the others the states tell
-  pub hall-sound : 1 ≤ h.n → h.n ≤ mostGateways → lowTest ≡ true → hallShaped h ≡ soundTest
-  unfolding hallShaped
+  pub hall-sound : 1 ≤ h.n → h.n ≤ most_gateways → low_test ≡ true → hall_shaped h ≡ sound_test
+  unfolding hall_shaped
   hall-sound a b low =
-      ap (λ (t : Bool). t && leb h.n mostGateways && lowTest && soundTest) (le-leb 1 h.n a)
-      ∙ ap (λ (t : Bool). t && lowTest && soundTest) (le-leb h.n mostGateways b)
-      ∙ ap (λ (t : Bool). t && soundTest) low
+      ap (λ (t : Bool). t && leb h.n most_gateways && low_test && sound_test) (le-leb 1 h.n a)
+      ∙ ap (λ (t : Bool). t && low_test && sound_test) (le-leb h.n most_gateways b)
+      ∙ ap (λ (t : Bool). t && sound_test) low
 
-  honest-low : lowTest ≡ true → (i : ℕ) → i < mostGateways → honestIn h i ≡ true → i < h.n
+  honest-low : low_test ≡ true → (i : ℕ) → i < most_gateways → honest_in h i ≡ true → i < h.n
   honest-low low i l y =
       elim (dec_lt i h.n) [
         | yes m ↦ m
-        | no m ↦ absurd (not-both y (not-true (honestIn h i) (Shapes.from_at mostGateways h.n (λ j. not (honestIn h j)) low i (omega arith) l)))
+        | no m ↦ absurd (not-both y (not-true (honest_in h i) (Shapes.from_at most_gateways h.n (λ j. not (honest_in h j)) low i (omega arith) l)))
       ]
 
   -- a badly shaped hall
-  pub hall-unkept : hallShaped h ≡ false → (false ≡ hallShaped h) × (false ≡ true → Kept h)
+  pub hall-unkept : hall_shaped h ≡ false → (false ≡ hall_shaped h) × (false ≡ true → Kept h)
   hall-unkept f = (sym f, λ e. absurd (false≢true e))
 
   -- a well-shaped one, in memory that has room for eight states of 65 rows
-  pub hall-kept : length h.states ≡ mostGateways
-      → length h.honest ≡ mostGateways
+  pub hall-kept : length h.states ≡ most_gateways
+      → length h.honest ≡ most_gateways
       → ((i : ℕ) → i < h.n → length (gateway h i).blocks ≡ suc capacity)
-      → hallShaped h ≡ true
+      → hall_shaped h ≡ true
       → Kept h
   hall-kept seats flags places e =
       let t = tests e in
@@ -149,21 +149,21 @@ module _ (h : Hall) where
         seats = seats;
         flags = flags;
         some = leb-true 1 h.n t.some;
-        most = leb-true h.n mostGateways t.most;
+        most = leb-true h.n most_gateways t.most;
         low = λ i y. honest-low t.low i (honest-below h i flags y) y;
         places = places;
-        shaped = allBelow-at h.n (λ i. wellShaped (gateway h i)) t.sound;
+        shaped = all_below-at h.n (λ i. well_shaped (gateway h i)) t.sound;
       }
 
 -- what a loop keeps is well shaped
-pub kept-shaped : {h : Hall} → Kept h → hallShaped h ≡ true
-kept-shaped {h} k = hall-sound h k.some k.most low ∙ allBelow-all h.n (λ i. wellShaped (gateway h i)) k.shaped
+pub kept-shaped : {h : Hall} → Kept h → hall_shaped h ≡ true
+kept-shaped {h} k = hall-sound h k.some k.most low ∙ all_below-all h.n (λ i. well_shaped (gateway h i)) k.shaped
   where
-    low : lowTest h ≡ true
+    low : low_test h ≡ true
     low =
-        allBelow-all mostGateways (λ i. ltb i h.n || not (honestIn h i))
+        all_below-all most_gateways (λ i. ltb i h.n || not (honest_in h i))
         (λ i _.
         elim (dec_lt i h.n) [
-          | yes l ↦ or_l (ltb i h.n) (not (honestIn h i)) (lt-ltb i h.n l)
-          | no l ↦ or_r (ltb i h.n) (not (honestIn h i)) (ap not (fails (honestIn h i) (λ y. l (k.low i y))))
+          | yes l ↦ or_l (ltb i h.n) (not (honest_in h i)) (lt-ltb i h.n l)
+          | no l ↦ or_r (ltb i h.n) (not (honest_in h i)) (ap not (fails (honest_in h i) (λ y. l (k.low i y))))
         ])

@@ -12,14 +12,14 @@ use lib.ListN.{length, set, length-set}
 use Rattle.table.specs.declared.Block.{Block}
 use Rattle.table.specs.declared.State.{State}
 use Rattle.table.specs.Scan.{pick}
-use Rattle.table.specs.Rows.{capacity, rows, size, at, find, hasVoter, withVoter}
+use Rattle.table.specs.Rows.{capacity, rows, size, at, find, has_voter, with_voter}
 use Rattle.table.proofs.Laws.{not-both, pick_yes, pick_no, pick-case, at_out}
 use Rattle.pala.specs.Answers.{taken}
-use Rattle.pala.specs.Effects.{withBlock, withVote, withClock, picked}
-use Rattle.pala.specs.Record.{kind_of, senderOf, name_of, is, message, proposalHeard, voteHeard, proposeNow, castNow}
-use Rattle.pala.specs.Rules.{epochAt, parent_of}
+use Rattle.pala.specs.Effects.{with_block, with_vote, with_clock, picked}
+use Rattle.pala.specs.Record.{kind_of, sender_of, name_of, is, message, proposal_heard, vote_heard, propose_now, cast_now}
+use Rattle.pala.specs.Rules.{epoch_at, parent_of}
 use Rattle.pala.specs.Run.{lent}
-use Rattle.pala.specs.Shape.{wellShaped}
+use Rattle.pala.specs.Shape.{well_shaped}
 use Rattle.pala.specs.Step.{step, room}
 use Rattle.pala.specs.Steps.{settled}
 use Rattle.pala.proofs.Calls.{step-stepped}
@@ -29,7 +29,7 @@ use Rattle.pala.proofs.Moves.{Did, added, counted, cast, clocked, Stepped, refus
 use Rattle.pala.proofs.Places.{parent-below}
 use Rattle.pala.proofs.Shapes.{and_both, shaped-count}
 use Rattle.pala.proofs.Tests.{or_l, or_r}
-use Rattle.node.specs.Moves.{placeFor}
+use Rattle.node.specs.Moves.{place_for}
 use Rattle.hall.specs.Book.{Whole, block_row, touched}
 
 -- ---- the place
@@ -37,77 +37,77 @@ use Rattle.hall.specs.Book.{Whole, block_row, touched}
 module _ (i : ℕ) (r : List ℕ) (place held : ℕ) where
   -- the place by this record
   abbrev by : ℕ
-  by = touched i (kind_of r) (senderOf r) place held
+  by = touched i (kind_of r) (sender_of r) place held
 
-  touched-cast : is castNow r ≡ true → by ≡ place
+  touched-cast : is cast_now r ≡ true → by ≡ place
   unfolding touched
-  touched-cast k = pick_yes _ _ _ (or_l (is castNow r) (is voteHeard r && eqb (senderOf r) i) k)
+  touched-cast k = pick_yes _ _ _ (or_l (is cast_now r) (is vote_heard r && eqb (sender_of r) i) k)
 
-  touched-vote : is voteHeard r ≡ true → senderOf r ≡ i → by ≡ place
+  touched-vote : is vote_heard r ≡ true → sender_of r ≡ i → by ≡ place
   unfolding touched
   touched-vote k e =
-      pick_yes _ _ _ (or_r (is castNow r) (is voteHeard r && eqb (senderOf r) i) (and_both (is voteHeard r) (eqb (senderOf r) i) k (eq-eqb (senderOf r) i e)))
+      pick_yes _ _ _ (or_r (is cast_now r) (is vote_heard r && eqb (sender_of r) i) (and_both (is vote_heard r) (eqb (sender_of r) i) k (eq-eqb (sender_of r) i e)))
 
-  touched_none : (is castNow r || is voteHeard r && eqb (senderOf r) i) ≡ false → by ≡ pick (is proposalHeard r || is proposeNow r) held 0
+  touched_none : (is cast_now r || is vote_heard r && eqb (sender_of r) i) ≡ false → by ≡ pick (is proposal_heard r || is propose_now r) held 0
   unfolding touched
   touched_none e = pick_no _ _ _ e
 
-  touched-other : is voteHeard r ≡ true → senderOf r ≢ i → by ≡ 0
+  touched-other : is vote_heard r ≡ true → sender_of r ≢ i → by ≡ 0
   touched-other k d =
-      touched_none (ap₂ (λ (x y : Bool). x || is voteHeard r && y) (other-kind r voteHeard castNow k refl) (ne_eqb (senderOf r) i d) ∙ and-false (is voteHeard r))
-      ∙ pick_no _ _ _ (ap₂ (λ (x y : Bool). x || y) (other-kind r voteHeard proposalHeard k refl) (other-kind r voteHeard proposeNow k refl))
+      touched_none (ap₂ (λ (x y : Bool). x || is vote_heard r && y) (other-kind r vote_heard cast_now k refl) (ne_eqb (sender_of r) i d) ∙ and-false (is vote_heard r))
+      ∙ pick_no _ _ _ (ap₂ (λ (x y : Bool). x || y) (other-kind r vote_heard proposal_heard k refl) (other-kind r vote_heard propose_now k refl))
 
-  no-vote : is voteHeard r ≡ false → is castNow r ≡ false → (is castNow r || is voteHeard r && eqb (senderOf r) i) ≡ false
-  no-vote a b = ap₂ (λ (x y : Bool). x || y && eqb (senderOf r) i) b a
+  no-vote : is vote_heard r ≡ false → is cast_now r ≡ false → (is cast_now r || is vote_heard r && eqb (sender_of r) i) ≡ false
+  no-vote a b = ap₂ (λ (x y : Bool). x || y && eqb (sender_of r) i) b a
 
-  touched-within : is voteHeard r ≡ false → is castNow r ≡ false → by ≤ held
+  touched-within : is vote_heard r ≡ false → is cast_now r ≡ false → by ≤ held
   touched-within a b =
       subst (λ (x : ℕ). x ≤ held) (sym (touched_none (no-vote a b))) (pick-case (λ (x : ℕ). x ≤ held) _ held 0 (λ _. omega arith) (λ _. omega arith))
 
-  touched-block : (is proposalHeard r ≡ true) ⊎ (is proposeNow r ≡ true) → by ≡ held
+  touched-block : (is proposal_heard r ≡ true) ⊎ (is propose_now r ≡ true) → by ≡ held
   touched-block (inl k) =
-      touched_none (no-vote (other-kind r proposalHeard voteHeard k refl) (other-kind r proposalHeard castNow k refl))
-      ∙ pick_yes _ _ _ (or_l (is proposalHeard r) (is proposeNow r) k)
+      touched_none (no-vote (other-kind r proposal_heard vote_heard k refl) (other-kind r proposal_heard cast_now k refl))
+      ∙ pick_yes _ _ _ (or_l (is proposal_heard r) (is propose_now r) k)
   touched-block (inr k) =
-      touched_none (no-vote (other-kind r proposeNow voteHeard k refl) (other-kind r proposeNow castNow k refl))
-      ∙ pick_yes _ _ _ (or_r (is proposalHeard r) (is proposeNow r) k)
+      touched_none (no-vote (other-kind r propose_now vote_heard k refl) (other-kind r propose_now cast_now k refl))
+      ∙ pick_yes _ _ _ (or_r (is proposal_heard r) (is propose_now r) k)
 
 module _ (s : State) (r : List ℕ) where
-  vote-place : is voteHeard r ≡ true → placeFor s r ≡ find (rows s) (name_of r)
-  unfolding placeFor
-  vote-place k = pick_no _ _ _ (other-kind r voteHeard proposalHeard k refl) ∙ pick_yes _ _ _ k
+  vote-place : is vote_heard r ≡ true → place_for s r ≡ find (rows s) (name_of r)
+  unfolding place_for
+  vote-place k = pick_no _ _ _ (other-kind r vote_heard proposal_heard k refl) ∙ pick_yes _ _ _ k
 
-  cast-place : is castNow r ≡ true → placeFor s r ≡ picked s
-  unfolding placeFor
+  cast-place : is cast_now r ≡ true → place_for s r ≡ picked s
+  unfolding place_for
   cast-place k =
-      pick_no _ _ _ (other-kind r castNow proposalHeard k refl)
-      ∙ pick_no _ _ _ (other-kind r castNow voteHeard k refl)
-      ∙ pick_no _ _ _ (other-kind r castNow proposeNow k refl)
+      pick_no _ _ _ (other-kind r cast_now proposal_heard k refl)
+      ∙ pick_no _ _ _ (other-kind r cast_now vote_heard k refl)
+      ∙ pick_no _ _ _ (other-kind r cast_now propose_now k refl)
       ∙ pick_yes _ _ _ k
 
 -- ---- the tables
 
 -- a row stays where its block does
 row_kept : {t u : List Block} → Grown t u → (i q : ℕ) → 0 < q → q < size t → at u q ≡ at t q → block_row u i q ≡ block_row t i q
-unfolding block_row epochAt
+unfolding block_row epoch_at
 row_kept {t} {u} g i q pos l e =
     let up : (at u (parent_of u q)).name ≡ (at t (parent_of t q)).name =
     ap (λ (x : ℕ). (at u x).name) (grown-parent g q l) ∙ g.name (parent_of t q) (omega (arith, parent-below t q pos)) in
-    ap₂ (λ (b : Block) (n : List ℕ). message proposalHeard (pick (hasVoter b i) 1 0) b.epoch.0 b.name n b.payload) e up
+    ap₂ (λ (b : Block) (n : List ℕ). message proposal_heard (pick (has_voter b i) 1 0) b.epoch.0 b.name n b.payload) e up
 
 -- another's vote leaves every row of gateway i
-row-voted : (t : List Block) (p j i q : ℕ) → p < size t → j ≢ i → 0 < q → q < size t → block_row (set t p (withVoter (at t p) j)) i q ≡ block_row t i q
-unfolding block_row epochAt withVoter
+row-voted : (t : List Block) (p j i q : ℕ) → p < size t → j ≢ i → 0 < q → q < size t → block_row (set t p (with_voter (at t p) j)) i q ≡ block_row t i q
+unfolding block_row epoch_at with_voter
 row-voted t p j i q l d pos m =
-    let u = set t p (withVoter (at t p) j) in
+    let u = set t p (with_voter (at t p) j) in
     let g = grown-vote t p j l in
     let up : (at u (parent_of u q)).name ≡ (at t (parent_of t q)).name =
     ap (λ (x : ℕ). (at u x).name) (grown-parent g q m) ∙ g.name (parent_of t q) (omega (arith, parent-below t q pos)) in
-    let row : Block → List ℕ → List ℕ = λ b n. message proposalHeard (pick (hasVoter b i) 1 0) b.epoch.0 b.name n b.payload in
-    let own : hasVoter (withVoter (at t p) j) i ≡ hasVoter (at t p) i = voter-was (at t p) j i (λ e. d (sym e)) in
+    let row : Block → List ℕ → List ℕ = λ b n. message proposal_heard (pick (has_voter b i) 1 0) b.epoch.0 b.name n b.payload in
+    let own : has_voter (with_voter (at t p) j) i ≡ has_voter (at t p) i = voter-was (at t p) j i (λ e. d (sym e)) in
     at-vote (λ b. row b (at u (parent_of u q)).name ≡ row (at t q) (at t (parent_of t q)).name) t p j q l
     (λ e.
-    ap₂ (λ (v : Bool) (n : List ℕ). message proposalHeard (pick v 1 0) (at t p).epoch.0 (at t p).name n (at t p).payload) own up
+    ap₂ (λ (v : Bool) (n : List ℕ). message proposal_heard (pick v 1 0) (at t p).epoch.0 (at t p).name n (at t p).payload) own up
     ∙ ap (λ (x : ℕ). row (at t x) (at t (parent_of t q)).name) (sym e))
     (λ _. ap (row (at t q)) up) m
 
@@ -116,8 +116,8 @@ all_whole : (t : List Block) → 0 < size t → ((q : ℕ) → q < size t → Wh
 all_whole t some inside q =
     elim (dec_lt q (size t)) [ yes l ↦ inside q l | no l ↦ subst Whole (sym (at_out t q (omega arith))) (inside 0 some) ]
 
-voter-whole : (b : Block) (j : ℕ) → Whole b → Whole (withVoter b j)
-unfolding withVoter
+voter-whole : (b : Block) (j : ℕ) → Whole b → Whole (with_voter b j)
+unfolding with_voter
 voter-whole b j w = record { name = w.name; payload = w.payload }
 
 -- of gateway i's rows only that of place p may be another
@@ -128,13 +128,13 @@ pub record Touches (s t : State) (i p : ℕ) : Type 0 where
   pub others : (q : ℕ) → 0 < q → q ≢ p → q ≤ t.count → (q ≤ s.count) × (block_row (rows t) i q ≡ block_row (rows s) i q)
   pub whole : ((q : ℕ) → Whole (at (rows s) q)) → (q : ℕ) → Whole (at (rows t) q)
 
-module _ (s : State) (places : length s.blocks ≡ suc capacity) (h : wellShaped s ≡ true) (i : ℕ) where
+module _ (s : State) (places : length s.blocks ≡ suc capacity) (h : well_shaped s ≡ true) (i : ℕ) where
   has : size (rows s) ≡ suc s.count
   has = size-shaped s places h
 
   -- a block more: the last row
-  touches-block : {u : State} (b : Block) (proposed : ℕ) → Whole b → room s.count ≡ true → u ≡ withBlock s b proposed → Touches s u i u.count
-  unfolding withBlock
+  touches-block : {u : State} (b : Block) (proposed : ℕ) → Whole b → room s.count ≡ true → u ≡ with_block s b proposed → Touches s u i u.count
+  unfolding with_block
   touches-block {u} b proposed w l e =
       let t = rows s in
       let held : u.count ≡ suc s.count = ap (λ (x : State). x.count) e in
@@ -162,16 +162,16 @@ module _ (s : State) (places : length s.blocks ≡ suc capacity) (h : wellShaped
       }
 
   -- a voter more
-  touches-voter : {u : State} (p j voted x : ℕ) → p < size (rows s) → u ≡ withVote s p j voted → x ≤ s.count
-      → ((q : ℕ) → 0 < q → q ≢ x → q < size (rows s) → block_row (set (rows s) p (withVoter (at (rows s) p) j)) i q ≡ block_row (rows s) i q)
+  touches-voter : {u : State} (p j voted x : ℕ) → p < size (rows s) → u ≡ with_vote s p j voted → x ≤ s.count
+      → ((q : ℕ) → 0 < q → q ≢ x → q < size (rows s) → block_row (set (rows s) p (with_voter (at (rows s) p) j)) i q ≡ block_row (rows s) i q)
       → Touches s u i x
-  unfolding withVote
+  unfolding with_vote
   touches-voter {u} p j voted x l e low kept =
       let t = rows s in
-      let after = set t p (withVoter (at t p) j) in
+      let after = set t p (with_voter (at t p) j) in
       let held : u.count ≡ s.count = ap (λ (x : State). x.count) e in
       let new : rows u ≡ after = ap rows e ∙ rows-voted s places h p j voted l in
-      let long : size after ≡ size t = length-set t p (withVoter (at t p) j) in
+      let long : size after ≡ size t = length-set t p (with_voter (at t p) j) in
       record {
         low = omega arith;
         most = omega (arith, shaped-count s h);
@@ -185,18 +185,18 @@ module _ (s : State) (places : length s.blocks ≡ suc capacity) (h : wellShaped
       }
 
   -- the row of its place, ..
-  touches-vote : {u : State} (p j voted : ℕ) → p < size (rows s) → u ≡ withVote s p j voted → Touches s u i p
+  touches-vote : {u : State} (p j voted : ℕ) → p < size (rows s) → u ≡ with_vote s p j voted → Touches s u i p
   touches-vote p j voted l e =
       touches-voter p j voted p l e (omega (arith, has))
-      (λ q pos d m. row_kept (grown-vote (rows s) p j l) i q pos m (at_set_other (rows s) p q (withVoter (at (rows s) p) j) m d))
+      (λ q pos d m. row_kept (grown-vote (rows s) p j l) i q pos m (at_set_other (rows s) p q (with_voter (at (rows s) p) j) m d))
 
   -- .. or none, if it is another's
-  touches-other : {u : State} (p j voted : ℕ) → p < size (rows s) → j ≢ i → u ≡ withVote s p j voted → Touches s u i 0
+  touches-other : {u : State} (p j voted : ℕ) → p < size (rows s) → j ≢ i → u ≡ with_vote s p j voted → Touches s u i 0
   touches-other p j voted l d e = touches-voter p j voted 0 l e (omega arith) (λ q pos _ m. row-voted (rows s) p j i q l d pos m)
 
   -- a clock: none
-  touches-clock : {u : State} (p j c : ℕ) → p ≤ u.count → u ≡ withClock s j c → Touches s u i p
-  unfolding withClock
+  touches-clock : {u : State} (p j c : ℕ) → p ≤ u.count → u ≡ with_clock s j c → Touches s u i p
+  unfolding with_clock
   touches-clock {u} p j c l e =
       let held : u.count ≡ s.count = ap (λ (x : State). x.count) e in
       let new : rows u ≡ rows s = ap rows e ∙ rows-clock s j c in
@@ -208,18 +208,18 @@ module _ (s : State) (places : length s.blocks ≡ suc capacity) (h : wellShaped
         whole = λ old. subst (λ (x : List Block). (q : ℕ) → Whole (at x q)) (sym new) old;
       }
 
-  did-touches : {r : List ℕ} {u : State} → Did room s r u → Touches s u i (touched i (kind_of r) (senderOf r) (placeFor s r) u.count)
+  did-touches : {r : List ℕ} {u : State} → Did room s r u → Touches s u i (touched i (kind_of r) (sender_of r) (place_for s r) u.count)
   did-touches {r} {u} (added b proposed kind w l e) =
-      subst (Touches s u i) (sym (touched-block i r (placeFor s r) u.count kind))
+      subst (Touches s u i) (sym (touched-block i r (place_for s r) u.count kind))
       (touches-block b proposed (record { name = w.sized.name; payload = w.sized.payload }) l e)
   did-touches {r} {u} (counted kind pos l below other e) =
-      elim (ℕ_discrete (senderOf r) i) [
-        | yes m ↦ subst (Touches s u i) (sym (touched-vote i r (placeFor s r) u.count kind m ∙ vote-place s r kind)) (touches-vote _ _ _ l e)
-        | no d ↦ subst (Touches s u i) (sym (touched-other i r (placeFor s r) u.count kind d)) (touches-other _ _ _ l d e)
+      elim (ℕ_discrete (sender_of r) i) [
+        | yes m ↦ subst (Touches s u i) (sym (touched-vote i r (place_for s r) u.count kind m ∙ vote-place s r kind)) (touches-vote _ _ _ l e)
+        | no d ↦ subst (Touches s u i) (sym (touched-other i r (place_for s r) u.count kind d)) (touches-other _ _ _ l d e)
       ]
   did-touches {r} {u} (cast kind l v e) =
-      subst (Touches s u i) (sym (touched-cast i r (placeFor s r) u.count kind ∙ cast-place s r kind)) (touches-vote _ _ _ l e)
-  did-touches {r} {u} (clocked j c k2 k5 below e) = touches-clock _ j c (touched-within i r (placeFor s r) u.count k2 k5) e
+      subst (Touches s u i) (sym (touched-cast i r (place_for s r) u.count kind ∙ cast-place s r kind)) (touches-vote _ _ _ l e)
+  did-touches {r} {u} (clocked j c k2 k5 below e) = touches-clock _ j c (touched-within i r (place_for s r) u.count k2 k5) e
 
 -- ---- a call
 
@@ -229,13 +229,13 @@ unfolding settled rows
 settled-touches w = record { low = w.low; most = w.most; more = w.more; others = w.others; whole = w.whole }
 
 pub step-touches :
-    (s : State) → length s.blocks ≡ suc capacity → wellShaped s ≡ true → (r : List ℕ) → taken (step s r lent).answer ≡ true
-    → (i : ℕ) → Touches s (step s r lent).state i (touched i (kind_of r) (senderOf r) (placeFor s r) (step s r lent).state.count)
+    (s : State) → length s.blocks ≡ suc capacity → well_shaped s ≡ true → (r : List ℕ) → taken (step s r lent).answer ≡ true
+    → (i : ℕ) → Touches s (step s r lent).state i (touched i (kind_of r) (sender_of r) (place_for s r) (step s r lent).state.count)
 unfolding settled
 step-touches s places h r k i = go (step-stepped s r lent places h)
   where
-    go : Stepped room s r lent (step s r lent) → Touches s (step s r lent).state i (touched i (kind_of r) (senderOf r) (placeFor s r) (step s r lent).state.count)
+    go : Stepped room s r lent (step s r lent) → Touches s (step s r lent).state i (touched i (kind_of r) (sender_of r) (place_for s r) (step s r lent).state.count)
     go (refused a e) = absurd (not-both k a)
     go (took a p d e) =
-        subst (λ (t : State). Touches s t i (touched i (kind_of r) (senderOf r) (placeFor s r) t.count)) (sym e)
+        subst (λ (t : State). Touches s t i (touched i (kind_of r) (sender_of r) (place_for s r) t.count)) (sym e)
         (settled-touches (did-touches s places h i d))

@@ -13,8 +13,8 @@ use Rattle.node.specs.declared.Decision.{Decision}
 use Rattle.node.specs.Moves.{decision}
 use Rattle.node.proofs.Calls.{decided-answer}
 use Rattle.accord.specs.declared.Hall.{Hall}
-use Rattle.accord.specs.Head.{gateway, honestIn}
-use Rattle.accord.specs.Rulings.{passes, seated, verdict, verdictNumber, hallAfter}
+use Rattle.accord.specs.Head.{gateway, honest_in}
+use Rattle.accord.specs.Rulings.{passes, seated, verdict, verdict_number, hall_after}
 use Rattle.accord.proofs.Halls.{allowed, hall-moves, hall-stays}
 use Rattle.hall.specs.declared.beside.Beside.{Beside}
 use Rattle.hall.specs.Kept.{Kept}
@@ -23,12 +23,12 @@ use Rattle.hall.proofs.Verdicts.{Seat}
 
 -- the hall after a record, and what stands beside it
 pub record Turned (h : Hall) (to : ℕ) (r : List ℕ) (u : Hall) (book lists counts : List ℕ) (word : Bool) : Type 0 where
-  pub hall : u ≡ hallAfter h to r
+  pub hall : u ≡ hall_after h to r
   pub live : Live u book lists counts word
 
 -- "a refused one changes nothing"
 pub turn-refused :
-    {h : Hall} {book lists counts : List ℕ} {word : Bool} {to told : ℕ} {r : List ℕ} → Live h book lists counts word → told ≡ verdictNumber (verdict h to r)
+    {h : Hall} {book lists counts : List ℕ} {word : Bool} {to told : ℕ} {r : List ℕ} → Live h book lists counts word → told ≡ verdict_number (verdict h to r)
     → (told ≡ 0 → ⊥) → Turned h to r h book lists counts word
 unfolding passes
 turn-refused {h} {to = to} {r = r} v e d = record { hall = sym (hall-stays h to r (ne_eqb _ 0 (λ z. d (e ∙ z)))); live = v }
@@ -36,9 +36,9 @@ turn-refused {h} {to = to} {r = r} v e d = record { hall = sym (hall-stays h to 
 -- who is honest and how many there are stay
 pub turned-flags :
     {h u : Hall} {to : ℕ} {r book lists counts : List ℕ} {word : Bool} → Turned h to r u book lists counts word → (h.honest ≡ u.honest) × (h.n ≡ u.n)
-unfolding hallAfter seated
+unfolding hall_after seated
 turned-flags {h} {to = to} {r = r} t =
-    let same : (h.honest ≡ (hallAfter h to r).honest) × (h.n ≡ (hallAfter h to r).n) =
+    let same : (h.honest ≡ (hall_after h to r).honest) × (h.n ≡ (hall_after h to r).n) =
     pick-case (λ x. (h.honest ≡ x.honest) × (h.n ≡ x.n)) (passes (verdict h to r)) (seated h to (step (gateway h to) r lent).state) h (λ _. (refl, refl)) (λ _. (refl, refl)) in
     (same.0 ∙ ap (λ (x : Hall). x.honest) (sym t.hall), same.1 ∙ ap (λ (x : Hall). x.n) (sym t.hall))
 
@@ -51,11 +51,11 @@ turn-as {h} {to = to} {r = r} e f g k t =
 
 -- a taken one: its receiver is honest and takes it, and the hall moves on by that step
 pub record Admitted (h : Hall) (to i : ℕ) (r : List ℕ) : Type 0 where
-  pub honest : honestIn h i ≡ true
+  pub honest : honest_in h i ≡ true
   pub takes : taken (step (gateway h i) r lent).answer ≡ true
-  pub moves : hallAfter h to r ≡ seated h i (step (gateway h i) r lent).state
+  pub moves : hall_after h to r ≡ seated h i (step (gateway h i) r lent).state
 
-pub admitted : {h : Hall} {to i told : ℕ} {r : List ℕ} → Seat h to i → told ≡ verdictNumber (verdict h to r) → told ≡ 0 → Admitted h to i r
+pub admitted : {h : Hall} {to i told : ℕ} {r : List ℕ} → Seat h to i → told ≡ verdict_number (verdict h to r) → told ≡ 0 → Admitted h to i r
 unfolding passes
 admitted {h} {to} {i} {r = r} s e z =
     let passed : passes (verdict h to r) ≡ true = eq-eqb _ 0 (sym e ∙ z) in

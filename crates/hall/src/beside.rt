@@ -4,8 +4,8 @@ ghost use Rattle.std.specs.Prelude.{ℕ, ◌≡◌, List, length, replicate};
 ghost use Rattle.accord.specs.declared.Hall.{Hall};
 ghost use Rattle.accord.specs.Rulings.{seated};
 ghost use Rattle.hall.specs.Kept.{Kept};
-ghost use Rattle.hall.specs.Book.{bookBytes, touched};
-ghost use Rattle.hall.specs.Lists.{listsBytes};
+ghost use Rattle.hall.specs.Book.{book_bytes, touched};
+ghost use Rattle.hall.specs.Lists.{lists_bytes};
 ghost use Rattle.hall.specs.Play.{Live, Moving};
 
 use crate::book::{enter_place, fill};
@@ -24,7 +24,7 @@ pub struct Beside {
 
 // The book and the lists of a hall.
 pub fn set_out(h: Hall, book: &mut [u8], lists: &mut [u8]) -> Beside
-    requires { Kept h × (book.old ≡ replicate bookBytes 0) × (length lists.old ≡ listsBytes) }
+    requires { Kept h × (book.old ≡ replicate book_bytes 0) × (length lists.old ≡ lists_bytes) }
     ensures { Live h book.new lists.new result.counts result.word }
 {
     fill(book, h);

@@ -3,12 +3,12 @@
 
 ghost use Rattle.std.specs.Prelude.{◌*◌, ◌<◌, ◌≤◌, ◌≡◌, ltb, length, replicate};
 ghost use Rattle.table.specs.Bytes.{same};
-ghost use Rattle.table.specs.Rows.{capacity, hasVoter, rows};
+ghost use Rattle.table.specs.Rows.{capacity, has_voter, rows};
 ghost use Rattle.table.specs.Scan.{pick};
-ghost use Rattle.pala.specs.Record.{message, proposalHeard, recordBytes};
+ghost use Rattle.pala.specs.Record.{message, proposal_heard, record_bytes};
 ghost use Rattle.lines.specs.Text.{written};
 ghost use Rattle.hall.specs.Kept.{Kept};
-ghost use Rattle.hall.specs.Book.{Paged, Pages, block_row, bookBytes, clashIn, row_of, rowOther, rowShows, shownIn};
+ghost use Rattle.hall.specs.Book.{Paged, Pages, block_row, book_bytes, clash_in, row_of, row_other, row_shows, shown_in};
 
 use crate::GATEWAYS;
 use accord::Hall;
@@ -57,8 +57,8 @@ fn same_bytes(a: &[u8], b: &[u8]) -> bool
 
 // Does a row show its gateway's own vote for the name.
 fn row_shows(row: &[u8], name: [u8; 32]) -> bool
-    requires { length row.now ≡ recordBytes }
-    ensures { result ≡ rowShows row.now name }
+    requires { length row.now ≡ record_bytes }
+    ensures { result ≡ row_shows row.now name }
 {
     if row[SENDER_AT] != SHOWN {
         return false;
@@ -71,8 +71,8 @@ fn row_shows(row: &[u8], name: [u8; 32]) -> bool
 
 // Does a row hold another block under the name of x, which is laid out as it; most rows differ in the name's first byte.
 fn row_other(row: &[u8], x: &[u8]) -> bool
-    requires { (length row.now ≡ recordBytes) × (length x.now ≡ recordBytes) }
-    ensures { result ≡ rowOther row.now x.now }
+    requires { (length row.now ≡ record_bytes) × (length x.now ≡ record_bytes) }
+    ensures { result ≡ row_other row.now x.now }
 {
     if row[NAME_AT] != x[NAME_AT] {
         return false;
@@ -88,8 +88,8 @@ fn row_other(row: &[u8], x: &[u8]) -> bool
 
 // Does the table of gateway i show its own vote for the name.
 pub fn shown(book: &[u8], i: usize, name: [u8; 32]) -> bool
-    requires { (length book.now ≡ bookBytes) × (i < 8) }
-    ensures { result ≡ shownIn book.now i name }
+    requires { (length book.now ≡ book_bytes) × (i < 8) }
+    ensures { result ≡ shown_in book.now i name }
 {
     let first = PAGE_ROWS * i;
     let mut k: usize = 0;
@@ -105,8 +105,8 @@ pub fn shown(book: &[u8], i: usize, name: [u8; 32]) -> bool
 
 // Does some honest table hold another block under the name of x.
 pub fn clashes(book: &[u8], x: &[u8]) -> bool
-    requires { (length book.now ≡ bookBytes) × (length x.now ≡ recordBytes) }
-    ensures { result ≡ clashIn book.now x.now }
+    requires { (length book.now ≡ book_bytes) × (length x.now ≡ record_bytes) }
+    ensures { result ≡ clash_in book.now x.now }
 {
     let mut e: usize = 0;
     while e < ROWS {
@@ -131,8 +131,8 @@ fn mark_of(own: bool) -> u32
 
 // Writes a block and its parent's name into the row of a place of gateway i.
 fn enter(book: &mut [u8], i: usize, p: u32, b: Block, parent: [u8; 32])
-    requires { (length book.old ≡ bookBytes) × (i < 8) × (0 < p) × (p ≤ capacity) }
-    ensures { book.new ≡ written book.old (recordBytes * row_of i p) (message proposalHeard (pick (hasVoter b i) 1 0) b.epoch.0 b.name parent b.payload) }
+    requires { (length book.old ≡ book_bytes) × (i < 8) × (0 < p) × (p ≤ capacity) }
+    ensures { book.new ≡ written book.old (record_bytes * row_of i p) (message proposal_heard (pick (has_voter b i) 1 0) b.epoch.0 b.name parent b.payload) }
 {
     let mark = mark_of(has_voter(b, NodeNo(i as u32)));
     let name = b.name;
@@ -164,8 +164,8 @@ fn parent_row(b: Block, p: u32) -> usize
 
 // Writes the row of a place of gateway i, whose state is s.
 pub fn enter_place(book: &mut [u8], i: usize, s: State, p: u32)
-    requires { (length book.old ≡ bookBytes) × (i < 8) × (0 < p) × (p ≤ s.count) × (s.count ≤ capacity) }
-    ensures { book.new ≡ written book.old (recordBytes * row_of i p) (block_row (rows s) i p) }
+    requires { (length book.old ≡ book_bytes) × (i < 8) × (0 < p) × (p ≤ s.count) × (s.count ≤ capacity) }
+    ensures { book.new ≡ written book.old (record_bytes * row_of i p) (block_row (rows s) i p) }
 {
     let b = s.blocks[p as usize];
     let up = s.blocks[parent_row(b, p)];
@@ -175,7 +175,7 @@ pub fn enter_place(book: &mut [u8], i: usize, s: State, p: u32)
 
 // Writes the rows of all blocks of gateway i, whose state is s.
 fn enter_all(book: &mut [u8], i: usize, s: State)
-    requires { (length book.old ≡ bookBytes) × (i < 8) × (s.count ≤ capacity) }
+    requires { (length book.old ≡ book_bytes) × (i < 8) × (s.count ≤ capacity) }
     ensures { Paged book.old i s book.new }
 {
     let count = s.count;
@@ -191,7 +191,7 @@ fn enter_all(book: &mut [u8], i: usize, s: State)
 
 // Writes the rows of every honest gateway's blocks into a book of zeros.
 pub fn fill(book: &mut [u8], h: Hall)
-    requires { (book.old ≡ replicate bookBytes 0) × Kept h }
+    requires { (book.old ≡ replicate book_bytes 0) × Kept h }
     ensures { Pages h book.new }
 {
     let mut i: usize = 0;

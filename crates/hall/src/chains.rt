@@ -1,15 +1,15 @@
 // The final lists of the honest gateways in lent bytes, and "whether of any two honest final lists one begins the other".
 
 ghost use Rattle.std.specs.Prelude.{◌*◌, ◌<◌, ◌≤◌, ◌≡◌, true, false, get_or, length};
-ghost use Rattle.table.specs.Rows.{capacity, nameBytes};
+ghost use Rattle.table.specs.Rows.{capacity, name_bytes};
 ghost use Rattle.table.specs.Scan.{all_below};
-ghost use Rattle.pala.specs.Lists.{finalNames, joined};
-ghost use Rattle.pala.specs.Run.{fullList};
-ghost use Rattle.pala.specs.Shape.{wellShaped};
-ghost use Rattle.accord.specs.Words.{oneBegins};
+ghost use Rattle.pala.specs.Lists.{final_names, joined};
+ghost use Rattle.pala.specs.Run.{full_list};
+ghost use Rattle.pala.specs.Shape.{well_shaped};
+ghost use Rattle.accord.specs.Words.{one_begins};
 ghost use Rattle.lines.specs.Text.{written};
 ghost use Rattle.hall.specs.Kept.{Kept};
-ghost use Rattle.hall.specs.Lists.{Fit, Listed, agreeIn, begun, listsBytes};
+ghost use Rattle.hall.specs.Lists.{Fit, Listed, agree_in, begun, lists_bytes};
 
 use crate::GATEWAYS;
 use accord::Hall;
@@ -23,7 +23,7 @@ const LIST_BYTES: usize = NAME * CAPACITY as usize;
 
 // "one begins the other": the bytes that both have are the same. Without a way out of the loop, sixteen of them are compared at once.
 fn one_begins(a: &[u8], b: &[u8]) -> bool
-    ensures { result ≡ oneBegins a.now b.now }
+    ensures { result ≡ one_begins a.now b.now }
 {
     let mut end = a.len();
     if b.len() < end {
@@ -70,7 +70,7 @@ fn agrees_before(lists: &[u8], counts: [u32; 8], honest: [bool; 8], i: usize) ->
 // "whether of any two honest final lists one begins the other"
 pub fn agree(lists: &[u8], counts: [u32; 8], honest: [bool; 8]) -> bool
     requires { Fit lists.now counts }
-    ensures { result ≡ agreeIn lists.now counts honest }
+    ensures { result ≡ agree_in lists.now counts honest }
 {
     let mut i: usize = 0;
     while i < GATEWAYS {
@@ -86,8 +86,8 @@ pub fn agree(lists: &[u8], counts: [u32; 8], honest: [bool; 8]) -> bool
 
 // Writes the final list of gateway i, whose state is s; how many names it has.
 pub fn list(lists: &mut [u8], i: usize, s: State) -> u32
-    requires { (length lists.old ≡ listsBytes) × (i < 8) × (wellShaped s ≡ true) }
-    ensures { (result ≡ length (finalNames s)) × (result ≤ capacity) × (lists.new ≡ written lists.old (fullList * i) (joined (finalNames s))) × (length (joined (finalNames s)) ≡ nameBytes * result) }
+    requires { (length lists.old ≡ lists_bytes) × (i < 8) × (well_shaped s ≡ true) }
+    ensures { (result ≡ length (final_names s)) × (result ≤ capacity) × (lists.new ≡ written lists.old (full_list * i) (joined (final_names s))) × (length (joined (final_names s)) ≡ name_bytes * result) }
 {
     let from = LIST_BYTES * i;
     let listing = final_list_shaped(s, &mut lists[from..from + LIST_BYTES]);
@@ -96,7 +96,7 @@ pub fn list(lists: &mut [u8], i: usize, s: State) -> u32
 
 // Writes the final list of every honest gateway; how many names each has.
 pub fn list_all(lists: &mut [u8], h: Hall) -> [u32; 8]
-    requires { (length lists.old ≡ listsBytes) × Kept h }
+    requires { (length lists.old ≡ lists_bytes) × Kept h }
     ensures { Listed h lists.new result }
 {
     let mut counts = [0u32; GATEWAYS];

@@ -2,7 +2,7 @@
 
 ghost use Rattle.std.specs.Prelude.{◌/◌, ◌%◌, ◌^◌, ◌<◌, ◌≡◌, map, eqb};
 ghost use Rattle.pala.specs.Step.{start};
-ghost use Rattle.accord.specs.Head.{Opened, gateways, noHall, opened};
+ghost use Rattle.accord.specs.Head.{Opened, gateways, no_hall, opened};
 
 use crate::GATEWAYS;
 use crate::seats::all_below;
@@ -55,7 +55,7 @@ fn begun(n: u32, own: u32) -> State
 
 // "and nothing is played"
 fn refused() -> Opening
-    ensures { result ≡ record { answer = Answer.Setup; hall = noHall } }
+    ensures { result ≡ record { answer = Answer.Setup; hall = no_hall } }
 {
     let s = all_zero();
     let hall = Hall {

@@ -1,8 +1,8 @@
 // "20 to 22 before 01's, lowest first, the last two on whole records only."
 
 ghost use Rattle.std.specs.Prelude.{◌<◌, ◌≡◌, ◌&&◌, not, false, get_or, length};
-ghost use Rattle.hall.specs.Book.{bookBytes, shownIn};
-ghost use Rattle.hall.specs.Judged.{clashedIn, judged, judgedOwn};
+ghost use Rattle.hall.specs.Book.{book_bytes, shown_in};
+ghost use Rattle.hall.specs.Judged.{clashed_in, judged, judged_own};
 
 use crate::book::{clashes, shown};
 use crate::seats::honest_at;
@@ -23,8 +23,8 @@ const CLASH: u32 = 22;
 
 // Is a vote under an honest number whose own table doesn't show it.
 fn forged(book: &[u8], honest: [bool; 8], who: u32, name: [u8; 32]) -> bool
-    requires { length book.now ≡ bookBytes }
-    ensures { result ≡ (get_or honest who false && not (shownIn book.now who name)) }
+    requires { length book.now ≡ book_bytes }
+    ensures { result ≡ (get_or honest who false && not (shown_in book.now who name)) }
 {
     if !honest_at(honest, who) {
         return false;
@@ -34,8 +34,8 @@ fn forged(book: &[u8], honest: [bool; 8], who: u32, name: [u8; 32]) -> bool
 
 // Does the name of a proposal stand in some honest table for another block.
 fn clash(book: &[u8], f: Fields, epoch: Epoch, parent: [u8; 32]) -> bool
-    requires { length book.now ≡ bookBytes }
-    ensures { result ≡ clashedIn book.now f epoch.0 parent }
+    requires { length book.now ≡ book_bytes }
+    ensures { result ≡ clashed_in book.now f epoch.0 parent }
 {
     let name = f.name;
     let payload = f.payload;
@@ -55,7 +55,7 @@ fn clash(book: &[u8], f: Fields, epoch: Epoch, parent: [u8; 32]) -> bool
 
 // The answer to a record as far as it asks nothing of its receiver's table: 20, 21, 22 for kind 1, else what was decided.
 pub fn judge(book: &[u8], honest: [bool; 8], to: u32, d: Decision) -> u32
-    requires { length book.now ≡ bookBytes }
+    requires { length book.now ≡ book_bytes }
     ensures { result ≡ judged book.now honest to d }
 {
     if !honest_at(honest, to) {
@@ -81,8 +81,8 @@ pub fn judge(book: &[u8], honest: [bool; 8], to: u32, d: Decision) -> u32
 
 // The answer to a record of kind 4, which would add a block of its receiver's local epoch on its freshest block.
 pub fn judge_own(book: &[u8], s: State, d: Decision, told: u32) -> u32
-    requires { length book.now ≡ bookBytes }
-    ensures { (result ≡ judgedOwn book.now s d.fields told) × (s.local.0 < 4294967296) }
+    requires { length book.now ≡ book_bytes }
+    ensures { (result ≡ judged_own book.now s d.fields told) × (s.local.0 < 4294967296) }
 {
     if told == RECEIVER {
         return told;

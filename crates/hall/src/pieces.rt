@@ -2,11 +2,11 @@
 
 ghost use Rattle.std.specs.Prelude.{◌+◌, ◌/◌, ◌<◌, min, ◌≡◌, length, replicate};
 ghost use Rattle.table.specs.Scan.{pick};
-ghost use Rattle.lines.specs.Text.{Lined, wordedAt};
-ghost use Rattle.accord.specs.Text.{no_word, yesWord};
-ghost use Rattle.hall.specs.Book.{bookBytes};
-ghost use Rattle.hall.specs.Lists.{listsBytes};
-ghost use Rattle.hall.specs.Play.{HallPiece, HallReady, hallPiece, playHall};
+ghost use Rattle.lines.specs.Text.{Lined, worded_at};
+ghost use Rattle.accord.specs.Text.{no_word, yes_word};
+ghost use Rattle.hall.specs.Book.{book_bytes};
+ghost use Rattle.hall.specs.Lists.{lists_bytes};
+ghost use Rattle.hall.specs.Play.{HallPiece, HallReady, hall_piece, play_hall};
 
 use crate::beside::{move_on, set_out};
 use crate::judging::{judge, judge_own};
@@ -78,7 +78,7 @@ fn wide(b: u8) -> u32
 
 // "After each record the program prints its number, the answer and yes or no"
 fn put_said(text: &mut [u8], at: usize, k: u64, told: u32, word: bool) -> usize
-    ensures { ◌≡◌ {A = Lined} (record { length = result; text = text.new }) (wordedAt k told (pick word yesWord no_word) at text.old) }
+    ensures { ◌≡◌ {A = Lined} (record { length = result; text = text.new }) (worded_at k told (pick word yes_word no_word) at text.old) }
 {
     if word {
         return put_worded(text, at, k, told as u64, b"yes");
@@ -95,8 +95,8 @@ fn play_records(
     book: &mut [u8],
     lists: &mut [u8],
 ) -> Told
-    requires { HallReady h before input.now text.old × (book.old ≡ replicate bookBytes 0) × (length lists.old ≡ listsBytes) }
-    ensures { ◌≡◌ {A = HallPiece} (record { answer = result.answer; hall = result.hall; before = result.before; length = result.length; text = text.new }) (hallPiece Answer.Taken h before input.now text.old) }
+    requires { HallReady h before input.now text.old × (book.old ≡ replicate book_bytes 0) × (length lists.old ≡ lists_bytes) }
+    ensures { ◌≡◌ {A = HallPiece} (record { answer = result.answer; hall = result.hall; before = result.before; length = result.length; text = text.new }) (hall_piece Answer.Taken h before input.now text.old) }
 {
     let mut beside = set_out(h, book, lists);
     let honest = h.honest;
@@ -129,7 +129,7 @@ fn play_records(
 
 // A piece of a recording played on a hall, of which `before` records came earlier; every hall, input and buffer is answered.
 pub fn play(h: Hall, before: u64, input: &[u8], text: &mut [u8]) -> Told
-    ensures { ◌≡◌ {A = HallPiece} (record { answer = result.answer; hall = result.hall; before = result.before; length = result.length; text = text.new }) (playHall h before input.now text.old) }
+    ensures { ◌≡◌ {A = HallPiece} (record { answer = result.answer; hall = result.hall; before = result.before; length = result.length; text = text.new }) (play_hall h before input.now text.old) }
 {
     if !hall_shaped(h) {
         return handed(Answer::State, h, before, 0);

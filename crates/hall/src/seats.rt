@@ -3,8 +3,8 @@
 ghost use Rattle.std.specs.Prelude.{ℕ, ◌<◌, ◌≤◌, suc, ◌≡◌, ◌||◌, not, true, false, ltb, get_or, length};
 ghost use Rattle.table.specs.Rows.{capacity};
 ghost use Rattle.table.specs.Scan.{all_below, pick};
-ghost use Rattle.pala.specs.Shape.{wellShaped};
-ghost use Rattle.accord.specs.Head.{gateway, hallShaped, mostGateways};
+ghost use Rattle.pala.specs.Shape.{well_shaped};
+ghost use Rattle.accord.specs.Head.{gateway, hall_shaped, most_gateways};
 ghost use Rattle.hall.specs.Kept.{Kept};
 
 use crate::GATEWAYS;
@@ -35,7 +35,7 @@ pub fn seat(who: u32, n: u32) -> usize
 
 // Is no number at or above n honest.
 pub fn all_below(honest: [bool; 8], n: u32) -> bool
-    ensures { result ≡ all_below mostGateways (λ i. ltb i n || not (get_or honest i false)) }
+    ensures { result ≡ all_below most_gateways (λ i. ltb i n || not (get_or honest i false)) }
 {
     let mut i: u32 = 0;
     while i < MOST_GATEWAYS {
@@ -51,15 +51,15 @@ pub fn all_below(honest: [bool; 8], n: u32) -> bool
 
 // Is a state well shaped; it always has its 65 rows.
 fn sound(s: State) -> bool
-    ensures { (result ≡ wellShaped s) × (length s.blocks ≡ suc capacity) }
+    ensures { (result ≡ well_shaped s) × (length s.blocks ≡ suc capacity) }
 {
     well_shaped(s)
 }
 
 // Is every gateway's state well shaped.
 fn all_sound(h: Hall) -> bool
-    requires { h.n ≤ mostGateways }
-    ensures { (result ≡ all_below h.n (λ i. wellShaped (gateway h i))) × (result ≡ true → (i : ℕ) → i < h.n → length (gateway h i).blocks ≡ suc capacity) }
+    requires { h.n ≤ most_gateways }
+    ensures { (result ≡ all_below h.n (λ i. well_shaped (gateway h i))) × (result ≡ true → (i : ℕ) → i < h.n → length (gateway h i).blocks ≡ suc capacity) }
 {
     let n = h.n as usize;
     let mut i: usize = 0;
@@ -75,7 +75,7 @@ fn all_sound(h: Hall) -> bool
 
 // "n (1 to 8)", no honest number at or above it, every gateway's state well shaped.
 pub fn hall_shaped(h: Hall) -> bool
-    ensures { (result ≡ hallShaped h) × (result ≡ true → Kept h) }
+    ensures { (result ≡ hall_shaped h) × (result ≡ true → Kept h) }
 {
     let n = h.n;
     if n < 1 {

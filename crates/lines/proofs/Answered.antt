@@ -10,42 +10,42 @@ use Rattle.table.specs.declared.Answer.{Answer}
 use Rattle.table.specs.declared.State.{State}
 use Rattle.table.specs.Scan.{pick}
 use Rattle.table.proofs.Laws.{pick_yes, pick_no}
-use Rattle.pala.specs.Answers.{number, taken, lowestOf}
+use Rattle.pala.specs.Answers.{number, taken, lowest_of}
 use Rattle.pala.specs.Run.{stretches}
-use Rattle.pala.specs.Shape.{wellShaped}
-use Rattle.lines.specs.Play.{Piece, Ready, pieceAnswer, piece, playPiece, lastNumber}
-use Rattle.lines.specs.Text.{lineMost}
+use Rattle.pala.specs.Shape.{well_shaped}
+use Rattle.lines.specs.Play.{Piece, Ready, piece_answer, piece, play_piece, last_number}
+use Rattle.lines.specs.Text.{line_most}
 
 module _ (s : State) (before : ℕ) (input text : List ℕ) where
   -- a refusal hands everything back
-  abbrev pub handedBack : Answer → Piece
-  handedBack a = record { answer = a; state = s; before = before; length = 0; text = text }
+  abbrev pub handed_back : Answer → Piece
+  handed_back a = record { answer = a; state = s; before = before; length = 0; text = text }
 
-  pub piece-unshaped : wellShaped s ≡ false → playPiece s before input text ≡ handedBack Answer.State
-  unfolding playPiece pieceAnswer lowestOf piece pick taken number
-  piece-unshaped h = ap (λ (a : Answer). piece a s before input text) (pick_yes (not (wellShaped s)) Answer.State _ (ap not h))
+  pub piece-unshaped : well_shaped s ≡ false → play_piece s before input text ≡ handed_back Answer.State
+  unfolding play_piece piece_answer lowest_of piece pick taken number
+  piece-unshaped h = ap (λ (a : Answer). piece a s before input text) (pick_yes (not (well_shaped s)) Answer.State _ (ap not h))
 
-  module _ (h : wellShaped s ≡ true) where
-    pub piece-short : length text < lineMost * length (stretches input) → playPiece s before input text ≡ handedBack Answer.Length
-    unfolding playPiece pieceAnswer lowestOf piece pick taken number
+  module _ (h : well_shaped s ≡ true) where
+    pub piece-short : length text < line_most * length (stretches input) → play_piece s before input text ≡ handed_back Answer.Length
+    unfolding play_piece piece_answer lowest_of piece pick taken number
     piece-short l =
         ap (λ (a : Answer). piece a s before input text)
-        (pick_no (not (wellShaped s)) Answer.State _ (ap not h)
-        ∙ pick_yes (ltb (length text) (lineMost * length (stretches input))) Answer.Length _ (lt-ltb _ _ l))
+        (pick_no (not (well_shaped s)) Answer.State _ (ap not h)
+        ∙ pick_yes (ltb (length text) (line_most * length (stretches input))) Answer.Length _ (lt-ltb _ _ l))
 
-    module _ (fits : lineMost * length (stretches input) ≤ length text) where
-      pub piece-over : lastNumber < before + length (stretches input) → playPiece s before input text ≡ handedBack Answer.Full
-      unfolding playPiece pieceAnswer lowestOf piece pick taken number
+    module _ (fits : line_most * length (stretches input) ≤ length text) where
+      pub piece-over : last_number < before + length (stretches input) → play_piece s before input text ≡ handed_back Answer.Full
+      unfolding play_piece piece_answer lowest_of piece pick taken number
       piece-over l =
           ap (λ (a : Answer). piece a s before input text)
-          (pick_no (not (wellShaped s)) Answer.State _ (ap not h)
-          ∙ pick_no (ltb (length text) (lineMost * length (stretches input))) Answer.Length _ (le-ltb _ _ fits)
-          ∙ pick_yes (ltb lastNumber (before + length (stretches input))) Answer.Full _ (lt-ltb _ _ l))
+          (pick_no (not (well_shaped s)) Answer.State _ (ap not h)
+          ∙ pick_no (ltb (length text) (line_most * length (stretches input))) Answer.Length _ (le-ltb _ _ fits)
+          ∙ pick_yes (ltb last_number (before + length (stretches input))) Answer.Full _ (lt-ltb _ _ l))
 
-  pub piece-ready : Ready s before input text → playPiece s before input text ≡ piece Answer.Taken s before input text
-  unfolding playPiece pieceAnswer lowestOf
+  pub piece-ready : Ready s before input text → play_piece s before input text ≡ piece Answer.Taken s before input text
+  unfolding play_piece piece_answer lowest_of
   piece-ready r =
       ap (λ (a : Answer). piece a s before input text)
-      (pick_no (not (wellShaped s)) Answer.State _ (ap not r.shaped)
-      ∙ pick_no (ltb (length text) (lineMost * length (stretches input))) Answer.Length _ (le-ltb _ _ r.fits)
-      ∙ pick_no (ltb lastNumber (before + length (stretches input))) Answer.Full _ (le-ltb _ _ r.number))
+      (pick_no (not (well_shaped s)) Answer.State _ (ap not r.shaped)
+      ∙ pick_no (ltb (length text) (line_most * length (stretches input))) Answer.Length _ (le-ltb _ _ r.fits)
+      ∙ pick_no (ltb last_number (before + length (stretches input))) Answer.Full _ (le-ltb _ _ r.number))

@@ -8,7 +8,7 @@ use native.Mathlib.Omega.{arith}
 use lib.ListN.{length, drop, drop_of_length-le}
 use Rattle.pala.specs.Run.{cut}
 use Rattle.pala.proofs.Stretches.{cut-none, part, next-cut}
-use Rattle.lines.specs.Play.{lastNumber}
+use Rattle.lines.specs.Play.{last_number}
 use Rattle.lines.specs.Text.{written, Put}
 use Rattle.lines.proofs.Laws.{put_then, put_as, put-length, written_none}
 
@@ -96,7 +96,7 @@ module _ {X : Type 0} (T : Tale X) {x : X} {before : ℕ} {input text₀ : List 
     some_left l = omega (arith, ap length (next-cut T.size T.some input from (min (length input - from) T.size) l refl))
 
     -- there is a number for the next record, and room for its line
-    pub going-numbered : from < length input → before + length (cut T.size input) ≤ lastNumber → k < lastNumber
+    pub going-numbered : from < length input → before + length (cut T.size input) ≤ last_number → k < last_number
     going-numbered l h = omega (arith, some_left l, g.number)
 
     pub going-length : length text ≡ length text₀

@@ -15,8 +15,8 @@ use Rattle.table.specs.declared.Answer.{Answer}
 use Rattle.table.specs.Scan.{pick}
 use Rattle.pala.specs.Answers.{number}
 use Rattle.table.proofs.Laws.{pick_yes, pick_no}
-use Rattle.pala.specs.Lines.{digitsIn, digits, spaced, space, newLine, endLine, setupLine}
-use Rattle.lines.specs.Text.{written, Put, Room, lineMost, endMost, Lined, lined}
+use Rattle.pala.specs.Lines.{digits_in, digits, spaced, space, new_line, end_line, setup_line}
+use Rattle.lines.specs.Text.{written, Put, Room, line_most, end_most, Lined, lined}
 
 -- ---- written
 
@@ -59,38 +59,38 @@ written_then text from a b h =
 
 -- ---- digits
 
-digitsIn-one : (d k : ℕ) → k < 10 → digitsIn d k ≡ (48 + k) ∷ []
-unfolding digitsIn
-digitsIn-one zero k h = ap (λ (n : ℕ). (48 + n) ∷ []) (omega arith)
-digitsIn-one (suc d) k h = rw (lt-ltb k 10 h, digitsIn)
+digits_in-one : (d k : ℕ) → k < 10 → digits_in d k ≡ (48 + k) ∷ []
+unfolding digits_in
+digits_in-one zero k h = ap (λ (n : ℕ). (48 + n) ∷ []) (omega arith)
+digits_in-one (suc d) k h = rw (lt-ltb k 10 h, digits_in)
 
-digitsIn-more : (d k : ℕ) → 10 ≤ k → digitsIn (suc d) k ≡ digitsIn d (k / 10) ++ ((48 + k % 10) ∷ [])
-unfolding digitsIn
-digitsIn-more d k h = rw (le-ltb k 10 h, digitsIn)
+digits_in-more : (d k : ℕ) → 10 ≤ k → digits_in (suc d) k ≡ digits_in d (k / 10) ++ ((48 + k % 10) ∷ [])
+unfolding digits_in
+digits_in-more d k h = rw (le-ltb k 10 h, digits_in)
 
 -- more steps than the number counts change nothing
-digits-fuel : (d e k : ℕ) → k ≤ d → k ≤ e → digitsIn d k ≡ digitsIn e k
-digits-fuel zero e k h g = digitsIn-one zero k (omega arith) ∙ sym (digitsIn-one e k (omega arith))
-digits-fuel (suc d) zero k h g = digitsIn-one (suc d) k (omega arith) ∙ sym (digitsIn-one zero k (omega arith))
+digits-fuel : (d e k : ℕ) → k ≤ d → k ≤ e → digits_in d k ≡ digits_in e k
+digits-fuel zero e k h g = digits_in-one zero k (omega arith) ∙ sym (digits_in-one e k (omega arith))
+digits-fuel (suc d) zero k h g = digits_in-one (suc d) k (omega arith) ∙ sym (digits_in-one zero k (omega arith))
 digits-fuel (suc d) (suc e) k h g =
     elim (dec_lt k 10) [
-      | yes l ↦ digitsIn-one (suc d) k l ∙ sym (digitsIn-one (suc e) k l)
+      | yes l ↦ digits_in-one (suc d) k l ∙ sym (digits_in-one (suc e) k l)
       | no l ↦
-          digitsIn-more d k (omega arith)
+          digits_in-more d k (omega arith)
           ∙ ap (λ (x : List ℕ). x ++ ((48 + k % 10) ∷ [])) (digits-fuel d e (k / 10) (omega arith) (omega arith))
-          ∙ sym (digitsIn-more e k (omega arith))
+          ∙ sym (digits_in-more e k (omega arith))
     ]
 
 -- a number below ten is one digit; any other ends in its last digit
 pub digits-one : (k : ℕ) → k < 10 → digits k ≡ (48 + k) ∷ []
 unfolding digits
-digits-one k h = digitsIn-one k k h
+digits-one k h = digits_in-one k k h
 
 pub digits_more : (k : ℕ) → 10 ≤ k → digits k ≡ digits (k / 10) ++ ((48 + k % 10) ∷ [])
 unfolding digits
 digits_more zero h = absurd (omega arith)
 digits_more (suc k) h =
-    digitsIn-more k (suc k) h
+    digits_in-more k (suc k) h
     ∙ ap (λ (x : List ℕ). x ++ ((48 + suc k % 10) ∷ [])) (digits-fuel k (suc k / 10) (suc k / 10) (omega arith) (omega arith))
 
 pub length-one : (k : ℕ) → k < 10 → length (digits k) ≡ 1
@@ -146,7 +146,7 @@ pub spaced-more : (x y : ℕ) (l : List ℕ) → (digits x ++ (space ∷ [])) ++
 unfolding spaced
 spaced-more x y l = append_snoc (digits x) space (spaced (y ∷ l))
 
-pub spaced-last : (x : ℕ) → digits x ++ (newLine ∷ []) ≡ spaced (x ∷ [])
+pub spaced-last : (x : ℕ) → digits x ++ (new_line ∷ []) ≡ spaced (x ∷ [])
 unfolding spaced
 spaced-last x = refl
 
@@ -156,7 +156,7 @@ length-spaced x y l = omega (arith, length-append (digits x) (space ∷ spaced (
 
 pub length-spaced-last : (x : ℕ) → length (spaced (x ∷ [])) ≡ length (digits x) + 1
 unfolding spaced
-length-spaced-last x = length-append (digits x) (newLine ∷ [])
+length-spaced-last x = length-append (digits x) (new_line ∷ [])
 
 -- where a line fits, its first number and the byte after it fit, and then the rest of the line
 pub room-first : {text : List ℕ} {from x : ℕ} {l : List ℕ} → Room text from (x ∷ l) → from + length (digits x) < length text
@@ -200,7 +200,7 @@ number-most k e h = omega (arith, length-append (digits k) (e ∷ []), digits-mo
 -- a line of a record: a number of 64 bits, one of two digits, two of 32 bits and one of two digits
 pub line-most :
     (k answer local bar names : ℕ) → k < 2 ^ 64 → answer < 100 → local < 2 ^ 32 → bar < 2 ^ 32 → names < 100
-    → length (spaced (k ∷ answer ∷ local ∷ bar ∷ names ∷ [])) ≤ lineMost
+    → length (spaced (k ∷ answer ∷ local ∷ bar ∷ names ∷ [])) ≤ line_most
 line-most k answer local bar names hk ha hl hb hn =
     omega (
       arith,
@@ -227,32 +227,32 @@ put-more {text} {x} {y} {from} bytes k v l h p e q =
     put_as (ap (λ (n : ℕ). take k bytes ++ (n ∷ [])) e ∙ sym (rw (add-one k) (take-suc bytes k 0 l))) (put_then (omega arith) p q)
 
 -- a line at the start of a buffer that has room for the longest, and one that has not
-pub lined-none : (line text : List ℕ) → length text < endMost → ◌≡◌ {A = Lined} (record { length = 0; text = text }) (lined line text)
+pub lined-none : (line text : List ℕ) → length text < end_most → ◌≡◌ {A = Lined} (record { length = 0; text = text }) (lined line text)
 unfolding lined
 lined-none line text h =
-    let test : ltb (length text) endMost ≡ true = lt-ltb (length text) endMost h in
-    let first : 0 ≡ pick (ltb (length text) endMost) 0 (length line) = sym (pick_yes (ltb (length text) endMost) 0 (length line) test) in
-    let rest : text ≡ pick (ltb (length text) endMost) text (written text 0 line) =
-    sym (pick_yes (ltb (length text) endMost) text (written text 0 line) test) in
+    let test : ltb (length text) end_most ≡ true = lt-ltb (length text) end_most h in
+    let first : 0 ≡ pick (ltb (length text) end_most) 0 (length line) = sym (pick_yes (ltb (length text) end_most) 0 (length line) test) in
+    let rest : text ≡ pick (ltb (length text) end_most) text (written text 0 line) =
+    sym (pick_yes (ltb (length text) end_most) text (written text 0 line) test) in
     λ i. record { length = first i; text = rest i }
 
 pub lined-put :
-    {text after : List ℕ} {past : ℕ} (line : List ℕ) → endMost ≤ length text → Put text 0 line past after
+    {text after : List ℕ} {past : ℕ} (line : List ℕ) → end_most ≤ length text → Put text 0 line past after
     → ◌≡◌ {A = Lined} (record { length = past; text = after }) (lined line text)
 unfolding lined
 lined-put {text} {after} {past} line h p =
-    let test : ltb (length text) endMost ≡ false = le-ltb (length text) endMost h in
-    let first : past ≡ pick (ltb (length text) endMost) 0 (length line) =
-    p.ends ∙ zero-add (length line) ∙ sym (pick_no (ltb (length text) endMost) 0 (length line) test) in
-    let rest : after ≡ pick (ltb (length text) endMost) text (written text 0 line) =
-    p.holds ∙ sym (pick_no (ltb (length text) endMost) text (written text 0 line) test) in
+    let test : ltb (length text) end_most ≡ false = le-ltb (length text) end_most h in
+    let first : past ≡ pick (ltb (length text) end_most) 0 (length line) =
+    p.ends ∙ zero-add (length line) ∙ sym (pick_no (ltb (length text) end_most) 0 (length line) test) in
+    let rest : after ≡ pick (ltb (length text) end_most) text (written text 0 line) =
+    p.holds ∙ sym (pick_no (ltb (length text) end_most) text (written text 0 line) test) in
     λ i. record { length = first i; text = rest i }
 
 -- "end" or "setup", a space and a number are such a line
-pub end_line : (k : ℕ) → (101 ∷ 110 ∷ 100 ∷ 32 ∷ []) ++ (digits k ++ (newLine ∷ [])) ≡ endLine k
-unfolding endLine spaced
-end_line k = refl
+pub end_line_lem : (k : ℕ) → (101 ∷ 110 ∷ 100 ∷ 32 ∷ []) ++ (digits k ++ (new_line ∷ [])) ≡ end_line k
+unfolding end_line spaced
+end_line_lem k = refl
 
-pub setup-line : (k : ℕ) → k ≡ number Answer.Setup → (115 ∷ 101 ∷ 116 ∷ 117 ∷ 112 ∷ 32 ∷ []) ++ (digits k ++ (newLine ∷ [])) ≡ setupLine
-unfolding setupLine spaced
-setup-line k e = ap (λ (n : ℕ). (115 ∷ 101 ∷ 116 ∷ 117 ∷ 112 ∷ 32 ∷ []) ++ (digits n ++ (newLine ∷ []))) e
+pub setup-line : (k : ℕ) → k ≡ number Answer.Setup → (115 ∷ 101 ∷ 116 ∷ 117 ∷ 112 ∷ 32 ∷ []) ++ (digits k ++ (new_line ∷ [])) ≡ setup_line
+unfolding setup_line spaced
+setup-line k e = ap (λ (n : ℕ). (115 ∷ 101 ∷ 116 ∷ 117 ∷ 112 ∷ 32 ∷ []) ++ (digits n ++ (new_line ∷ []))) e

@@ -9,16 +9,16 @@ use Rattle.table.specs.declared.State.{State}
 use Rattle.table.specs.Scan.{pick}
 use Rattle.pala.specs.Answers.{number, taken}
 use Rattle.pala.specs.Lines.{line_of, lines}
-use Rattle.pala.specs.Record.{recordBytes}
+use Rattle.pala.specs.Record.{record_bytes}
 use Rattle.pala.specs.Run.{stretches, played, lent}
 use Rattle.pala.specs.Step.{step}
 use Rattle.lines.specs.Play.{Piece, piece}
-use Rattle.lines.specs.Text.{lineMost}
+use Rattle.lines.specs.Text.{line_most}
 use Rattle.lines.proofs.Going.{Tale, Going, Gone, going_start}
 
 -- a record's line
-abbrev pub recordLine : State → ℕ → List ℕ → List ℕ
-recordLine s k r = line_of k (step s r lent).answer (step s r lent).state
+abbrev pub record_line : State → ℕ → List ℕ → List ℕ
+record_line s k r = line_of k (step s r lent).answer (step s r lent).state
 
 module _ (s : State) where
   pub played-none : played s [] ≡ s
@@ -33,18 +33,18 @@ module _ (s : State) where
   unfolding lines
   lines_none k = refl
 
-  pub lines_more : (k : ℕ) (r : List ℕ) (more : List (List ℕ)) → lines s k (r ∷ more) ≡ recordLine s (suc k) r ++ lines (step s r lent).state (suc k) more
+  pub lines_more : (k : ℕ) (r : List ℕ) (more : List (List ℕ)) → lines s k (r ∷ more) ≡ record_line s (suc k) r ++ lines (step s r lent).state (suc k) more
   unfolding lines
   lines_more k r more = refl
 
 abbrev pub recording : Tale State
 recording =
     record {
-      size = recordBytes;
-      most = lineMost;
+      size = record_bytes;
+      most = line_most;
       some = omega arith;
       after = λ s r. (step s r lent).state;
-      line = recordLine;
+      line = record_line;
       last = played;
       text = lines;
       last_none = played-none;
@@ -54,7 +54,7 @@ recording =
     }
 
 module _ {s : State} {before : ℕ} {input text₀ : List ℕ} where
-  pub recording-start : lineMost * length (stretches input) ≤ length text₀ → Going recording s before input text₀ s before 0 0 text₀
+  pub recording-start : line_most * length (stretches input) ≤ length text₀ → Going recording s before input text₀ s before 0 0 text₀
   unfolding stretches
   recording-start room = going_start recording room
 

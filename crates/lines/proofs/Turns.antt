@@ -10,7 +10,7 @@ use Rattle.table.specs.declared.State.{State}
 use Rattle.table.specs.Scan.{pick}
 use Rattle.table.proofs.Laws.{pick-case}
 use Rattle.pala.specs.Answers.{taken}
-use Rattle.pala.specs.Lists.{finalNames}
+use Rattle.pala.specs.Lists.{final_names}
 use Rattle.pala.specs.Run.{lent}
 use Rattle.pala.specs.Step.{step}
 use Rattle.pala.proofs.Playing.{Playable, step-playable, names-stay}
@@ -21,7 +21,7 @@ use Rattle.node.proofs.Calls.{decided-same}
 -- a state to go on from, and how many final names it has
 pub record Counted (s : State) (names : ℕ) : Type 0 where
   pub playable : Playable s
-  pub counted : names ≡ length (finalNames s)
+  pub counted : names ≡ length (final_names s)
 
 -- the state after a record, its final names counted
 pub record Turned (s : State) (r : List ℕ) (u : State) (names : ℕ) : Type 0 where
@@ -30,7 +30,7 @@ pub record Turned (s : State) (r : List ℕ) (u : State) (names : ℕ) : Type 0 
 
 module _ (s : State) (r : List ℕ) {names : ℕ} (c : Counted s names) where
   -- taken: the names are counted anew where another final block is kept
-  pub turn-taken : {u : State} {some : ℕ} → u ≡ (step s r lent).state → some ≡ pick (eqb u.kept.0 s.kept.0) names (length (finalNames u)) → Turned s r u some
+  pub turn-taken : {u : State} {some : ℕ} → u ≡ (step s r lent).state → some ≡ pick (eqb u.kept.0 s.kept.0) names (length (final_names u)) → Turned s r u some
   turn-taken {u} {some} e f =
       record {
         state = e;
@@ -39,13 +39,13 @@ module _ (s : State) (r : List ℕ) {names : ℕ} (c : Counted s names) where
               playable = subst Playable (sym e) (step-playable s r lent c.playable);
               counted =
                   f
-                  ∙ pick-case (λ (n : ℕ). n ≡ length (finalNames u)) (eqb u.kept.0 s.kept.0) names (length (finalNames u))
+                  ∙ pick-case (λ (n : ℕ). n ≡ length (final_names u)) (eqb u.kept.0 s.kept.0) names (length (final_names u))
                   (λ b. c.counted ∙ ap length (sym (stays (eqb-true u.kept.0 s.kept.0 b)))) (λ _. refl);
             };
       }
     where
-      stays : u.kept.0 ≡ s.kept.0 → finalNames u ≡ finalNames s
-      stays k = ap finalNames e ∙ names-stay s r lent c.playable (ap (λ (x : State). x.kept.0) (sym e) ∙ k)
+      stays : u.kept.0 ≡ s.kept.0 → final_names u ≡ final_names s
+      stays k = ap final_names e ∙ names-stay s r lent c.playable (ap (λ (x : State). x.kept.0) (sym e) ∙ k)
 
   -- "Refused records are passed over."
   pub turn-refused : {d : Decision} → d ≡ decision s r → taken d.answer ≡ false → Turned s r s names

@@ -3,15 +3,15 @@ use Rattle.std.specs.Prelude.{ℕ, ◌+◌, ◌*◌, ◌≤◌, ◌≡◌, true,
 use Rattle.table.specs.declared.Answer.{Answer}
 use Rattle.table.specs.declared.State.{State}
 use Rattle.table.specs.Scan.{pick}
-use Rattle.pala.specs.Answers.{taken, lowestOf}
+use Rattle.pala.specs.Answers.{taken, lowest_of}
 use Rattle.pala.specs.Lines.{lines}
 use Rattle.pala.specs.Run.{stretches, played}
-use Rattle.pala.specs.Shape.{wellShaped}
-use Rattle.lines.specs.Text.{written, lineMost}
+use Rattle.pala.specs.Shape.{well_shaped}
+use Rattle.lines.specs.Text.{written, line_most}
 
 -- the last record number that can be printed
-abbrev pub lastNumber : ℕ
-lastNumber = 18446744073709551615
+abbrev pub last_number : ℕ
+last_number = 18446744073709551615
 
 -- what a piece hands back
 pub record Piece : Type 0 where
@@ -22,13 +22,13 @@ pub record Piece : Type 0 where
   pub text : List ℕ
 
 -- 1 for a badly shaped state, 3 for a text buffer that could be too short for so many lines, 14 where the record numbers run out
-unfoldable pub pieceAnswer : State → ℕ → List ℕ → List ℕ → Answer
-unfolding lowestOf wellShaped stretches
-pieceAnswer s before input text =
-    lowestOf
-    ((not (wellShaped s), Answer.State)
-    ∷ (ltb (length text) (lineMost * length (stretches input)), Answer.Length)
-    ∷ (ltb lastNumber (before + length (stretches input)), Answer.Full)
+unfoldable pub piece_answer : State → ℕ → List ℕ → List ℕ → Answer
+unfolding lowest_of well_shaped stretches
+piece_answer s before input text =
+    lowest_of
+    ((not (well_shaped s), Answer.State)
+    ∷ (ltb (length text) (line_most * length (stretches input)), Answer.Length)
+    ∷ (ltb last_number (before + length (stretches input)), Answer.Full)
     ∷ [])
 
 -- the lines of the piece's records at the start of the buffer, the rest of it unchanged; refused: the same state, the same bytes
@@ -43,12 +43,12 @@ piece a s before input text =
       text = pick (taken a) (written text 0 (lines s before (stretches input))) text;
     }
 
-unfoldable pub playPiece : State → ℕ → List ℕ → List ℕ → Piece
-unfolding piece pieceAnswer
-playPiece s before input text = piece (pieceAnswer s before input text) s before input text
+unfoldable pub play_piece : State → ℕ → List ℕ → List ℕ → Piece
+unfolding piece piece_answer
+play_piece s before input text = piece (piece_answer s before input text) s before input text
 
 -- a piece that none of the three refuses
 pub record Ready (s : State) (before : ℕ) (input text : List ℕ) : Type 0 where
-  pub shaped : wellShaped s ≡ true
-  pub fits : lineMost * length (stretches input) ≤ length text
-  pub number : before + length (stretches input) ≤ lastNumber
+  pub shaped : well_shaped s ≡ true
+  pub fits : line_most * length (stretches input) ≤ length text
+  pub number : before + length (stretches input) ≤ last_number

@@ -18,12 +18,12 @@ pub record Room (text : List ℕ) (from : ℕ) (numbers : List ℕ) : Type 0 whe
   pub fits : from + length (spaced numbers) ≤ length text
 
 -- the longest line: 20 digits of a record number, 2 of an answer, 10 of each epoch, 2 of a count of names, 5 bytes between and after them
-abbrev pub lineMost : ℕ
-lineMost = 49
+abbrev pub line_most : ℕ
+line_most = 49
 
 -- the longest first or last line: 6 letters, 20 digits and a new line
-abbrev pub endMost : ℕ
-endMost = 27
+abbrev pub end_most : ℕ
+end_most = 27
 
 -- a line at the start of a buffer, and its length; nothing where the longest would not fit
 pub record Lined : Type 0 where
@@ -34,19 +34,19 @@ unfoldable pub lined : List ℕ → List ℕ → Lined
 unfolding pick written
 lined line text =
     record {
-      length = pick (ltb (length text) endMost) 0 (length line);
-      text = pick (ltb (length text) endMost) text (written text 0 line);
+      length = pick (ltb (length text) end_most) 0 (length line);
+      text = pick (ltb (length text) end_most) text (written text 0 line);
     }
 
 -- the most that two numbers take of it, with a space after each and the new line
-abbrev pub numbersMost : ℕ
-numbersMost = 43
+abbrev pub numbers_most : ℕ
+numbers_most = 43
 
 -- the line from an index on, and the index past it; nothing where the longest of that word would not fit
-unfoldable pub wordedAt : ℕ → ℕ → List ℕ → ℕ → List ℕ → Lined
+unfoldable pub worded_at : ℕ → ℕ → List ℕ → ℕ → List ℕ → Lined
 unfolding pick worded written
-wordedAt k answer word from text =
+worded_at k answer word from text =
     record {
-      length = pick (leb (from + numbersMost + length word) (length text)) (from + length (worded k answer word)) from;
-      text = pick (leb (from + numbersMost + length word) (length text)) (written text from (worded k answer word)) text;
+      length = pick (leb (from + numbers_most + length word) (length text)) (from + length (worded k answer word)) from;
+      text = pick (leb (from + numbers_most + length word) (length text)) (written text from (worded k answer word)) text;
     }

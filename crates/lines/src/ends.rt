@@ -1,7 +1,7 @@
 // The only line of a refused recording, and the last line of any other.
 
 ghost use Rattle.std.specs.Prelude.{◌≡◌};
-ghost use Rattle.pala.specs.Lines.{endLine, setupLine};
+ghost use Rattle.pala.specs.Lines.{end_line, setup_line};
 ghost use Rattle.lines.specs.Text.{Lined, lined};
 
 use crate::text::{put_bytes, put_number};
@@ -15,7 +15,7 @@ const NEW_LINE: u8 = b'\n';
 
 // "Last, `end` and the number of lines.", at the start of a buffer that has room; else nothing.
 pub fn put_end(count: u64, text: &mut [u8]) -> usize
-    ensures { ◌≡◌ {A = Lined} (record { length = result; text = text.new }) (lined (endLine count) text.old) }
+    ensures { ◌≡◌ {A = Lined} (record { length = result; text = text.new }) (lined (end_line count) text.old) }
 {
     if text.len() < ROOM {
         return 0;
@@ -26,7 +26,7 @@ pub fn put_end(count: u64, text: &mut [u8]) -> usize
 
 // "only `setup 15`", at the start of a buffer that has room; else nothing.
 pub fn put_setup(text: &mut [u8]) -> usize
-    ensures { ◌≡◌ {A = Lined} (record { length = result; text = text.new }) (lined setupLine text.old) }
+    ensures { ◌≡◌ {A = Lined} (record { length = result; text = text.new }) (lined setup_line text.old) }
 {
     if text.len() < ROOM {
         return 0;

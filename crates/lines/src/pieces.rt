@@ -2,8 +2,8 @@
 
 ghost use Rattle.std.specs.Prelude.{◌+◌, ◌/◌, ◌<◌, min, ◌≡◌, eqb, length};
 ghost use Rattle.table.specs.Scan.{pick};
-ghost use Rattle.pala.specs.Lists.{finalNames};
-ghost use Rattle.lines.specs.Play.{Piece, Ready, piece, playPiece};
+ghost use Rattle.pala.specs.Lists.{final_names};
+ghost use Rattle.lines.specs.Play.{Piece, Ready, piece, play_piece};
 
 use crate::text::put_line;
 use lists::finals::final_count;
@@ -36,7 +36,7 @@ fn wide(x: u32) -> u64
 
 // "length of the final list", counted anew only where another final block is kept than before.
 fn names_after(t: State, kept: Place, names: u32) -> u32
-    ensures { result ≡ pick (eqb t.kept.0 kept.0) names (length (finalNames t)) }
+    ensures { result ≡ pick (eqb t.kept.0 kept.0) names (length (final_names t)) }
 {
     if t.kept.0 == kept.0 {
         return names;
@@ -103,7 +103,7 @@ fn play_records(s: State, before: u64, input: &[u8], text: &mut [u8]) -> Played
 
 // A piece of a recording played from a state, of which `before` records came earlier; every state, input and buffer is answered.
 pub fn play(s: State, before: u64, input: &[u8], text: &mut [u8]) -> Played
-    ensures { ◌≡◌ {A = Piece} (record { answer = result.answer; state = result.state; before = result.before; length = result.length; text = text.new }) (playPiece s before input.now text.old) }
+    ensures { ◌≡◌ {A = Piece} (record { answer = result.answer; state = result.state; before = result.before; length = result.length; text = text.new }) (play_piece s before input.now text.old) }
 {
     if !well_shaped(s) {
         return refused(Answer::State, s, before);

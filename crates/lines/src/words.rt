@@ -1,7 +1,7 @@
 // A line of two numbers and a word, which a hall's text is made of.
 
 ghost use Rattle.std.specs.Prelude.{◌≡◌, length};
-ghost use Rattle.lines.specs.Text.{Lined, wordedAt};
+ghost use Rattle.lines.specs.Text.{Lined, worded_at};
 
 use crate::text::{put_byte, put_bytes, put_number};
 
@@ -14,7 +14,7 @@ const NEW_LINE: u8 = b'\n';
 
 // The line from an index on, in a buffer that has room there for any two numbers and the word; else nothing. The index past it.
 pub fn put_worded(text: &mut [u8], at: usize, k: u64, answer: u64, word: &[u8]) -> usize
-    ensures { ◌≡◌ {A = Lined} (record { length = result; text = text.new }) (wordedAt k answer word.now at text.old) }
+    ensures { ◌≡◌ {A = Lined} (record { length = result; text = text.new }) (worded_at k answer word.now at text.old) }
 {
     let long = text.len();
     if long < at {

@@ -11,16 +11,16 @@ use lib.Dec.{ltb, leb}
 use lib.ListN.{length, get_or, take, drop, set, length-append, take-append-drop}
 use lib.Seq.{take_all, take-append-le, drop_at, length-take-le, take-take, append_snoc, paste, paste-suc}
 use Rattle.table.specs.Scan.{pick}
-use Rattle.table.specs.Rows.{nameBytes, capacity, rows, at}
+use Rattle.table.specs.Rows.{name_bytes, capacity, rows, at}
 use Rattle.table.specs.declared.Answer.{Answer}
 use Rattle.table.specs.declared.Block.{Block}
 use Rattle.table.specs.declared.State.{State}
 use Rattle.table.proofs.Laws.{pick_yes, pick_no, pick-case, fails, not-both, at_rows, at-past, size-rows}
 use Rattle.pala.specs.Rules.{lower, parent_of}
-use Rattle.pala.specs.Answers.{lowestOf, number, taken}
-use Rattle.pala.specs.Shape.{wellShaped}
-use Rattle.pala.specs.Lists.{Listed, listAnswer, listed, finalList, joined, finalPlaces, finalNames}
-use Rattle.pala.proofs.Finals.{namesTo, names-zero, names-up, names-up-length}
+use Rattle.pala.specs.Answers.{lowest_of, number, taken}
+use Rattle.pala.specs.Shape.{well_shaped}
+use Rattle.pala.specs.Lists.{Listed, list_answer, listed, final_list, joined, final_places, final_names}
+use Rattle.pala.proofs.Finals.{names_to, names-zero, names-up, names-up-length}
 
 -- ---- how code reads a place
 
@@ -77,70 +77,70 @@ module _ (list : List ℕ) (from : ℕ) (name : List ℕ) (k : ℕ) where
       ∙ paste-suc list from name k z h m
       ∙ ap (λ (j : ℕ). paste list from name j) (sym (add-one k))
 
-  pub put_whole : (l : List ℕ) → k ≡ nameBytes → length name ≡ nameBytes → l ≡ paste list from name k → l ≡ take from list ++ name ++ drop (from + nameBytes) list
+  pub put_whole : (l : List ℕ) → k ≡ name_bytes → length name ≡ name_bytes → l ≡ paste list from name k → l ≡ take from list ++ name ++ drop (from + name_bytes) list
   put_whole l e h w =
       w
       ∙ ap (λ (j : ℕ). take from list ++ take j name ++ drop (from + j) list) e
-      ∙ ap (λ (x : List ℕ). take from list ++ x ++ drop (from + nameBytes) list) (take_all nameBytes name (omega arith))
+      ∙ ap (λ (x : List ℕ). take from list ++ x ++ drop (from + name_bytes) list) (take_all name_bytes name (omega arith))
 
 -- a list into which the names after place p have been written, the first of them at `from`
 pub record Written (t : List Block) (names : List (List ℕ)) (whole : List ℕ) (p from : ℕ) (list : List ℕ) : Type 0 where
   pub after : List (List ℕ)
-  pub split : names ≡ namesTo t p ++ after
-  pub here : from ≡ nameBytes * length (namesTo t p)
-  pub bytes : list ≡ take from whole ++ (joined after ++ drop (nameBytes * length names) whole)
+  pub split : names ≡ names_to t p ++ after
+  pub here : from ≡ name_bytes * length (names_to t p)
+  pub bytes : list ≡ take from whole ++ (joined after ++ drop (name_bytes * length names) whole)
 
-pub written_none : (s : State) (count : ℕ) (whole : List ℕ) → count ≡ length (finalNames s) → Written (rows s) (finalNames s) whole s.kept.0 (nameBytes * count) whole
-unfolding finalNames finalPlaces namesTo joined
+pub written_none : (s : State) (count : ℕ) (whole : List ℕ) → count ≡ length (final_names s) → Written (rows s) (final_names s) whole s.kept.0 (name_bytes * count) whole
+unfolding final_names final_places names_to joined
 written_none s count whole e =
-    let start = nameBytes * count in
+    let start = name_bytes * count in
     record {
       after = [];
-      split = sym (append-nil (finalNames s));
-      here = ap (λ (k : ℕ). nameBytes * k) e;
-      bytes = sym (ap (λ (k : ℕ). take start whole ++ drop (nameBytes * k) whole) (sym e) ∙ take-append-drop start whole);
+      split = sym (append-nil (final_names s));
+      here = ap (λ (k : ℕ). name_bytes * k) e;
+      bytes = sym (ap (λ (k : ℕ). take start whole ++ drop (name_bytes * k) whole) (sym e) ∙ take-append-drop start whole);
     }
 
-pub written_all : (t : List Block) (names : List (List ℕ)) (whole : List ℕ) (p from : ℕ) (list : List ℕ) → p ≡ 0 → Written t names whole p from list → list ≡ joined names ++ drop (nameBytes * length names) whole
+pub written_all : (t : List Block) (names : List (List ℕ)) (whole : List ℕ) (p from : ℕ) (list : List ℕ) → p ≡ 0 → Written t names whole p from list → list ≡ joined names ++ drop (name_bytes * length names) whole
 written_all t names whole p from list z w =
-    let none : namesTo t p ≡ [] = ap (λ (x : ℕ). namesTo t x) z ∙ names-zero t in
+    let none : names_to t p ≡ [] = ap (λ (x : ℕ). names_to t x) z ∙ names-zero t in
     let start : from ≡ 0 = omega (arith, w.here, ap length none) in
     let all : names ≡ w.after = w.split ∙ ap (λ (l : List (List ℕ)). l ++ w.after) none in
     w.bytes
-    ∙ ap (λ (k : ℕ). take k whole ++ (joined w.after ++ drop (nameBytes * length names) whole)) start
-    ∙ ap (λ (l : List (List ℕ)). joined l ++ drop (nameBytes * length names) whole) (sym all)
+    ∙ ap (λ (k : ℕ). take k whole ++ (joined w.after ++ drop (name_bytes * length names) whole)) start
+    ∙ ap (λ (l : List (List ℕ)). joined l ++ drop (name_bytes * length names) whole) (sym all)
 
-module _ (t : List Block) (names : List (List ℕ)) (whole : List ℕ) (p from : ℕ) (list : List ℕ) (w : Written t names whole p from list) (fits : nameBytes * length names ≤ length whole) where
+module _ (t : List Block) (names : List (List ℕ)) (whole : List ℕ) (p from : ℕ) (list : List ℕ) (w : Written t names whole p from list) (fits : name_bytes * length names ≤ length whole) where
   pub written-room : from ≤ length whole
-  written-room = omega (arith, w.here, ap length w.split, length-append (namesTo t p) w.after)
+  written-room = omega (arith, w.here, ap length w.split, length-append (names_to t p) w.after)
 
   -- the name at p goes in front of what is written, and the next is its parent's
   module _ (below : 0 < p) where
-    pub written_next : nameBytes ≤ from
+    pub written_next : name_bytes ≤ from
     written_next = omega (arith, w.here, names-up-length t p below)
 
-    pub written_step : (q to : ℕ) (name more : List ℕ) → q ≡ parent_of t p → to + nameBytes ≡ from → name ≡ (at t p).name → more ≡ take to list ++ name ++ drop (to + nameBytes) list → Written t names whole q to more
+    pub written_step : (q to : ℕ) (name more : List ℕ) → q ≡ parent_of t p → to + name_bytes ≡ from → name ≡ (at t p).name → more ≡ take to list ++ name ++ drop (to + name_bytes) list → Written t names whole q to more
     unfolding joined
     written_step q to name more e f g m =
-        let rest = joined w.after ++ drop (nameBytes * length names) whole in
+        let rest = joined w.after ++ drop (name_bytes * length names) whole in
         let room : length (take from whole) ≡ from = length-take-le from whole written-room in
         let front : take to list ≡ take to whole = ap (λ (l : List ℕ). take to l) w.bytes ∙ take-append-le to (take from whole) rest (omega arith) ∙ take-take to from whole (omega arith) in
-        let back : drop (to + nameBytes) list ≡ rest = ap (λ (l : List ℕ). drop (to + nameBytes) l) w.bytes ∙ drop_at (take from whole) rest (to + nameBytes) (room ∙ sym f) in
+        let back : drop (to + name_bytes) list ≡ rest = ap (λ (l : List ℕ). drop (to + name_bytes) l) w.bytes ∙ drop_at (take from whole) rest (to + name_bytes) (room ∙ sym f) in
         record {
           after = name ∷ w.after;
           split =
               w.split
               ∙ ap (λ (l : List (List ℕ)). l ++ w.after) (names-up t p below)
-              ∙ append_snoc (namesTo t (parent_of t p)) (at t p).name w.after
-              ∙ ap (λ (x : List ℕ). namesTo t (parent_of t p) ++ x ∷ w.after) (sym g)
-              ∙ ap (λ (x : ℕ). namesTo t x ++ name ∷ w.after) (sym e);
-          here = omega (arith, w.here, names-up-length t p below, ap (λ (x : ℕ). length (namesTo t x)) e);
+              ∙ append_snoc (names_to t (parent_of t p)) (at t p).name w.after
+              ∙ ap (λ (x : List ℕ). names_to t (parent_of t p) ++ x ∷ w.after) (sym g)
+              ∙ ap (λ (x : ℕ). names_to t x ++ name ∷ w.after) (sym e);
+          here = omega (arith, w.here, names-up-length t p below, ap (λ (x : ℕ). length (names_to t x)) e);
           bytes =
               m
-              ∙ ap (λ (l : List ℕ). l ++ name ++ drop (to + nameBytes) list) front
+              ∙ ap (λ (l : List ℕ). l ++ name ++ drop (to + name_bytes) list) front
               ∙ ap (λ (l : List ℕ). take to whole ++ name ++ l) back
               ∙ append_assoc (take to whole) name rest
-              ∙ ap (λ (l : List ℕ). take to whole ++ l) (sym (append_assoc name (joined w.after) (drop (nameBytes * length names) whole)));
+              ∙ ap (λ (l : List ℕ). take to whole ++ l) (sym (append_assoc name (joined w.after) (drop (name_bytes * length names) whole)));
         }
 
 -- ---- what reading a final list hands back
@@ -149,22 +149,22 @@ abbrev reading : Answer → ℕ → List ℕ → Listed
 reading answer count list = record { answer = answer; count = count; list = list }
 
 module _ (s : State) (buffer : List ℕ) where
-  pub list-badly-shaped : wellShaped s ≡ false → reading Answer.State 0 buffer ≡ finalList s buffer
-  unfolding pick taken number listed listAnswer lowestOf finalList
-  list-badly-shaped h = sym (ap (λ (a : Answer). listed a s buffer) (pick_yes (not (wellShaped s)) _ _ (ap not h)))
+  pub list-badly-shaped : well_shaped s ≡ false → reading Answer.State 0 buffer ≡ final_list s buffer
+  unfolding pick taken number listed list_answer lowest_of final_list
+  list-badly-shaped h = sym (ap (λ (a : Answer). listed a s buffer) (pick_yes (not (well_shaped s)) _ _ (ap not h)))
 
-  module _ (shaped : wellShaped s ≡ true) where
-    roomy : listAnswer s buffer ≡ pick (ltb (length buffer) (nameBytes * length (finalNames s))) Answer.Length Answer.Taken
-    unfolding listAnswer lowestOf
-    roomy = pick_no (not (wellShaped s)) _ _ (ap not shaped)
+  module _ (shaped : well_shaped s ≡ true) where
+    roomy : list_answer s buffer ≡ pick (ltb (length buffer) (name_bytes * length (final_names s))) Answer.Length Answer.Taken
+    unfolding list_answer lowest_of
+    roomy = pick_no (not (well_shaped s)) _ _ (ap not shaped)
 
-    pub list-too-short : length buffer < nameBytes * length (finalNames s) → reading Answer.Length 0 buffer ≡ finalList s buffer
-    unfolding pick taken number listed finalList
+    pub list-too-short : length buffer < name_bytes * length (final_names s) → reading Answer.Length 0 buffer ≡ final_list s buffer
+    unfolding pick taken number listed final_list
     list-too-short h = sym (ap (λ (a : Answer). listed a s buffer) (roomy ∙ pick_yes _ _ _ (lt-ltb _ _ h)))
 
-    pub list_read : (count : ℕ) (list : List ℕ) → nameBytes * length (finalNames s) ≤ length buffer → count ≡ length (finalNames s) → list ≡ joined (finalNames s) ++ drop (nameBytes * length (finalNames s)) buffer → reading Answer.Taken count list ≡ finalList s buffer
-    unfolding pick taken number listed finalList
+    pub list_read : (count : ℕ) (list : List ℕ) → name_bytes * length (final_names s) ≤ length buffer → count ≡ length (final_names s) → list ≡ joined (final_names s) ++ drop (name_bytes * length (final_names s)) buffer → reading Answer.Taken count list ≡ final_list s buffer
+    unfolding pick taken number listed final_list
     list_read count list h e f =
         ap (λ (k : ℕ). reading Answer.Taken k list) e
-        ∙ ap (λ (l : List ℕ). reading Answer.Taken (length (finalNames s)) l) f
+        ∙ ap (λ (l : List ℕ). reading Answer.Taken (length (final_names s)) l) f
         ∙ sym (ap (λ (a : Answer). listed a s buffer) (roomy ∙ pick_no _ _ _ (le-ltb _ _ h)))

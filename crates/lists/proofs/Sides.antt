@@ -12,12 +12,12 @@ use lib.ListN.{length, get_or, take, drop, length-drop, take-append-drop}
 use lib.Seq.{get_or-take, get_or-drop, take-add, take_all, take-length, take-append-le, drop-append-le, length-take-le}
 use Rattle.table.specs.Scan.{pick}
 use Rattle.table.specs.Bytes.{same}
-use Rattle.table.specs.Rows.{nameBytes}
+use Rattle.table.specs.Rows.{name_bytes}
 use Rattle.table.specs.declared.Relation.{Relation}
 use Rattle.table.proofs.Laws.{pick_yes, pick_no, pick-case, not-both, lowest-is, lowest-none, lowest-le, lowest-below, same_refl, same_true, same-all, same_differs}
-use Rattle.pala.specs.Lists.{name_at, agreeing, broken, relation, relationNumber, relationIndex, tail, tailOf}
+use Rattle.pala.specs.Lists.{name_at, agreeing, broken, relation, relation_number, relation_index, tail, tail_of}
 use Rattle.pala.specs.Safety.{Begins}
-use Rattle.lists.specs.Tails.{past, tailStart}
+use Rattle.lists.specs.Tails.{past, tail_start}
 
 -- what does not fail passes
 not-of : (b : Bool) → (b ≡ false → ⊥) → b ≡ true
@@ -26,104 +26,104 @@ not-of false h = absurd (h refl)
 
 -- ---- a name in a list of names
 
-abbrev pub nameFrom : List ℕ → ℕ → List ℕ
-nameFrom a from = take nameBytes (drop from a)
+abbrev pub name_from : List ℕ → ℕ → List ℕ
+name_from a from = take name_bytes (drop from a)
 
-name-byte : (a : List ℕ) (from i : ℕ) → i < nameBytes → get_or (nameFrom a from) i 0 ≡ get_or a (from + i) 0
-name-byte a from i h = get_or-take nameBytes (drop from a) i 0 h ∙ get_or-drop from a i 0
+name-byte : (a : List ℕ) (from i : ℕ) → i < name_bytes → get_or (name_from a from) i 0 ≡ get_or a (from + i) 0
+name-byte a from i h = get_or-take name_bytes (drop from a) i 0 h ∙ get_or-drop from a i 0
 
-name-length : (a : List ℕ) (from : ℕ) → from + nameBytes ≤ length a → length (nameFrom a from) ≡ nameBytes
-name-length a from h = length-take-le nameBytes (drop from a) (omega (arith, length-drop from a))
+name-length : (a : List ℕ) (from : ℕ) → from + name_bytes ≤ length a → length (name_from a from) ≡ name_bytes
+name-length a from h = length-take-le name_bytes (drop from a) (omega (arith, length-drop from a))
 
 -- two names, by their bytes: one that differs, or none
-pub names-differ : (a b : List ℕ) (from i : ℕ) → i < nameBytes → (get_or a (from + i) 0 ≡ get_or b (from + i) 0 → ⊥) → same (nameFrom a from) (nameFrom b from) ≡ false
+pub names-differ : (a b : List ℕ) (from i : ℕ) → i < name_bytes → (get_or a (from + i) 0 ≡ get_or b (from + i) 0 → ⊥) → same (name_from a from) (name_from b from) ≡ false
 names-differ a b from i h differ =
-    same_differs (nameFrom a from) (nameFrom b from) i (λ e. differ (sym (name-byte a from i h) ∙ e ∙ name-byte b from i h))
+    same_differs (name_from a from) (name_from b from) i (λ e. differ (sym (name-byte a from i h) ∙ e ∙ name-byte b from i h))
 
-pub names_same : (a b : List ℕ) (from : ℕ) → from + nameBytes ≤ length a → from + nameBytes ≤ length b → ((i : ℕ) → i < nameBytes → get_or a (from + i) 0 ≡ get_or b (from + i) 0) → same (nameFrom a from) (nameFrom b from) ≡ true
+pub names_same : (a b : List ℕ) (from : ℕ) → from + name_bytes ≤ length a → from + name_bytes ≤ length b → ((i : ℕ) → i < name_bytes → get_or a (from + i) 0 ≡ get_or b (from + i) 0) → same (name_from a from) (name_from b from) ≡ true
 names_same a b from p q agree =
-    same-all (nameFrom a from) (nameFrom b from) nameBytes (name-length a from p) (name-length b from q)
+    same-all (name_from a from) (name_from b from) name_bytes (name-length a from p) (name-length b from q)
     (λ i l. name-byte a from i l ∙ agree i l ∙ sym (name-byte b from i l))
 
 -- ---- how many names agree
 
 -- the whole names that both lists have
-abbrev pub inBoth : List ℕ → List ℕ → ℕ
-inBoth a b = min (length a / nameBytes) (length b / nameBytes)
+abbrev pub in_both : List ℕ → List ℕ → ℕ
+in_both a b = min (length a / name_bytes) (length b / name_bytes)
 
-pub agreeing-is : (a b : List ℕ) (k : ℕ) → k < inBoth a b → same (nameFrom a (nameBytes * k)) (nameFrom b (nameBytes * k)) ≡ false → ((i : ℕ) → i < k → same (nameFrom a (nameBytes * i)) (nameFrom b (nameBytes * i)) ≡ true) → agreeing a b ≡ k
+pub agreeing-is : (a b : List ℕ) (k : ℕ) → k < in_both a b → same (name_from a (name_bytes * k)) (name_from b (name_bytes * k)) ≡ false → ((i : ℕ) → i < k → same (name_from a (name_bytes * i)) (name_from b (name_bytes * i)) ≡ true) → agreeing a b ≡ k
 unfolding agreeing name_at
 agreeing-is a b k l differ agree =
-    lowest-is (inBoth a b) (λ i. not (same (name_at a i) (name_at b i))) k l (ap not differ) (λ i m. ap not (agree i m))
+    lowest-is (in_both a b) (λ i. not (same (name_at a i) (name_at b i))) k l (ap not differ) (λ i m. ap not (agree i m))
 
-pub agreeing-all : (a b : List ℕ) → ((i : ℕ) → i < inBoth a b → same (nameFrom a (nameBytes * i)) (nameFrom b (nameBytes * i)) ≡ true) → agreeing a b ≡ inBoth a b
+pub agreeing-all : (a b : List ℕ) → ((i : ℕ) → i < in_both a b → same (name_from a (name_bytes * i)) (name_from b (name_bytes * i)) ≡ true) → agreeing a b ≡ in_both a b
 unfolding agreeing name_at
 agreeing-all a b agree =
-    lowest-none (inBoth a b) (λ i. not (same (name_at a i) (name_at b i))) (λ i m. ap not (agree i m))
+    lowest-none (in_both a b) (λ i. not (same (name_at a i) (name_at b i))) (λ i m. ap not (agree i m))
 
-pub agreeing-le : (a b : List ℕ) → agreeing a b ≤ inBoth a b
+pub agreeing-le : (a b : List ℕ) → agreeing a b ≤ in_both a b
 unfolding agreeing
-agreeing-le a b = lowest-le (inBoth a b) (λ i. not (same (name_at a i) (name_at b i)))
+agreeing-le a b = lowest-le (in_both a b) (λ i. not (same (name_at a i) (name_at b i)))
 
 -- the names that agree are the same bytes
-agreeing-names : (a b : List ℕ) (i : ℕ) → i < agreeing a b → nameFrom a (nameBytes * i) ≡ nameFrom b (nameBytes * i)
+agreeing-names : (a b : List ℕ) (i : ℕ) → i < agreeing a b → name_from a (name_bytes * i) ≡ name_from b (name_bytes * i)
 unfolding agreeing name_at
 agreeing-names a b i l =
-    same_true (name_at a i) (name_at b i) (not-false (same (name_at a i) (name_at b i)) (lowest-below (inBoth a b) (λ k. not (same (name_at a k) (name_at b k))) i l))
+    same_true (name_at a i) (name_at b i) (not-false (same (name_at a i) (name_at b i)) (lowest-below (in_both a b) (λ k. not (same (name_at a k) (name_at b k))) i l))
 
-agreeing-bytes : (a b : List ℕ) (m : ℕ) → m ≤ agreeing a b → take (nameBytes * m) a ≡ take (nameBytes * m) b
+agreeing-bytes : (a b : List ℕ) (m : ℕ) → m ≤ agreeing a b → take (name_bytes * m) a ≡ take (name_bytes * m) b
 agreeing-bytes a b zero h = refl
 agreeing-bytes a b (suc m) h =
-    let e : nameBytes * suc m ≡ nameBytes * m + nameBytes = omega arith in
-    let before : take (nameBytes * m) a ≡ take (nameBytes * m) b = agreeing-bytes a b m (omega arith) in
-    let here : nameFrom a (nameBytes * m) ≡ nameFrom b (nameBytes * m) = agreeing-names a b m h in
+    let e : name_bytes * suc m ≡ name_bytes * m + name_bytes = omega arith in
+    let before : take (name_bytes * m) a ≡ take (name_bytes * m) b = agreeing-bytes a b m (omega arith) in
+    let here : name_from a (name_bytes * m) ≡ name_from b (name_bytes * m) = agreeing-names a b m h in
     ap (λ (n : ℕ). take n a) e
-    ∙ take-add (nameBytes * m) nameBytes a
-    ∙ ap (λ (l : List ℕ). l ++ nameFrom a (nameBytes * m)) before
-    ∙ ap (λ (l : List ℕ). take (nameBytes * m) b ++ l) here
-    ∙ sym (take-add (nameBytes * m) nameBytes b)
+    ∙ take-add (name_bytes * m) name_bytes a
+    ∙ ap (λ (l : List ℕ). l ++ name_from a (name_bytes * m)) before
+    ∙ ap (λ (l : List ℕ). take (name_bytes * m) b ++ l) here
+    ∙ sym (take-add (name_bytes * m) name_bytes b)
     ∙ ap (λ (n : ℕ). take n b) (sym e)
 
 -- ---- the relation
 
 -- both lists are made of whole names
 abbrev pub Whole : List ℕ → List ℕ → Type 0
-Whole a b = (length a % nameBytes ≡ 0) × (length b % nameBytes ≡ 0)
+Whole a b = (length a % name_bytes ≡ 0) × (length b % name_bytes ≡ 0)
 
 -- the names that both have agree
 abbrev pub Agree : List ℕ → List ℕ → Type 0
-Agree a b = Whole a b × (agreeing a b ≡ inBoth a b)
+Agree a b = Whole a b × (agreeing a b ≡ in_both a b)
 
 -- what each relation says of two lists
 abbrev pub Says : List ℕ → List ℕ → Relation → Type 0
 Says a b Relation.Equal = Agree a b × (length a ≡ length b)
 Says a b Relation.FirstLonger = Agree a b × (length b < length a)
 Says a b Relation.SecondLonger = Agree a b × (length a < length b)
-Says a b (Relation.Fork k) = Whole a b × (agreeing a b ≡ k) × (k < inBoth a b)
+Says a b (Relation.Fork k) = Whole a b × (agreeing a b ≡ k) × (k < in_both a b)
 Says a b Relation.Broken = Whole a b → ⊥
 
 whole-not-broken : (a b : List ℕ) → Whole a b → broken a b ≡ false
 unfolding broken
-whole-not-broken a b w = rw (eq-eqb (length a % nameBytes) 0 w.0, eq-eqb (length b % nameBytes) 0 w.1)
+whole-not-broken a b w = rw (eq-eqb (length a % name_bytes) 0 w.0, eq-eqb (length b % name_bytes) 0 w.1)
 
 not-broken-whole : (a b : List ℕ) → broken a b ≡ false → Whole a b
 unfolding broken
 not-broken-whole a b h =
-    let both = (and-eq-true_iff (eqb (length a % nameBytes) 0) (eqb (length b % nameBytes) 0)).0 (not-false (eqb (length a % nameBytes) 0 && eqb (length b % nameBytes) 0) h) in
-    (eqb-true (length a % nameBytes) 0 both.0, eqb-true (length b % nameBytes) 0 both.1)
+    let both = (and-eq-true_iff (eqb (length a % name_bytes) 0) (eqb (length b % name_bytes) 0)).0 (not-false (eqb (length a % name_bytes) 0 && eqb (length b % name_bytes) 0) h) in
+    (eqb-true (length a % name_bytes) 0 both.0, eqb-true (length b % name_bytes) 0 both.1)
 
 -- the relation says what it says of its two lists ..
 pub relation-says : (a b : List ℕ) → Says a b (relation a b)
 unfolding relation
 relation-says a b =
     let P = Says a b in
-    let both : broken a b ≡ false → inBoth a b ≤ agreeing a b → Agree a b = λ w l. (not-broken-whole a b w, omega (arith, agreeing-le a b)) in
+    let both : broken a b ≡ false → in_both a b ≤ agreeing a b → Agree a b = λ w l. (not-broken-whole a b w, omega (arith, agreeing-le a b)) in
     pick-case P (broken a b) Relation.Broken _ (λ h w. not-both h (whole-not-broken a b w))
     (λ w.
-    pick-case P (ltb (agreeing a b) (inBoth a b)) (Relation.Fork (agreeing a b)) _
-    (λ f. (not-broken-whole a b w, refl, ltb-true (agreeing a b) (inBoth a b) f))
+    pick-case P (ltb (agreeing a b) (in_both a b)) (Relation.Fork (agreeing a b)) _
+    (λ f. (not-broken-whole a b w, refl, ltb-true (agreeing a b) (in_both a b) f))
     (λ f.
-    let m : inBoth a b ≤ agreeing a b = ltb-false (agreeing a b) (inBoth a b) f in
+    let m : in_both a b ≤ agreeing a b = ltb-false (agreeing a b) (in_both a b) f in
     pick-case P (eqb (length a) (length b)) Relation.Equal _ (λ e. (both w m, eqb-true (length a) (length b) e))
     (λ e.
     pick-case P (ltb (length b) (length a)) Relation.FirstLonger Relation.SecondLonger (λ l. (both w m, ltb-true (length b) (length a) l))
@@ -138,7 +138,7 @@ module _ (a b : List ℕ) where
   unfolding relation
   agree-relation h =
       pick_no (broken a b) _ _ (whole-not-broken a b h.0)
-      ∙ pick_no (ltb (agreeing a b) (inBoth a b)) _ _ (le-ltb (agreeing a b) (inBoth a b) (omega arith))
+      ∙ pick_no (ltb (agreeing a b) (in_both a b)) _ _ (le-ltb (agreeing a b) (in_both a b) (omega arith))
 
   pub relation-is : (x : Relation) → Says a b x → relation a b ≡ x
   unfolding relation
@@ -153,17 +153,17 @@ module _ (a b : List ℕ) where
       ∙ pick_no _ _ _ (le-ltb (length b) (length a) (omega arith))
   relation-is (Relation.Fork k) h =
       pick_no (broken a b) _ _ (whole-not-broken a b h.0)
-      ∙ pick_yes (ltb (agreeing a b) (inBoth a b)) _ _ (lt-ltb (agreeing a b) (inBoth a b) (omega arith))
+      ∙ pick_yes (ltb (agreeing a b) (in_both a b)) _ _ (lt-ltb (agreeing a b) (in_both a b) (omega arith))
       ∙ ap (λ (i : ℕ). Relation.Fork i) h.1
   relation-is Relation.Broken h =
       pick_yes (broken a b) _ _ (not-of (broken a b) (λ e. h (not-broken-whole a b e)))
 
   -- an index is below the names that both lists have
-  pub relation-index : relationIndex (relation a b) ≤ inBoth a b
-  unfolding relationIndex
+  pub relation-index : relation_index (relation a b) ≤ in_both a b
+  unfolding relation_index
   relation-index = index (relation a b) (relation-says a b)
     where
-      index : (x : Relation) → Says a b x → relationIndex x ≤ inBoth a b
+      index : (x : Relation) → Says a b x → relation_index x ≤ in_both a b
       index Relation.Equal h = zero-le
       index Relation.FirstLonger h = zero-le
       index Relation.SecondLonger h = zero-le
@@ -173,17 +173,17 @@ module _ (a b : List ℕ) where
 -- ---- lists that begin with one another
 
 -- the names that both have are the same bytes
-alike : (a b : List ℕ) → Agree a b → (n : ℕ) → n ≡ nameBytes * inBoth a b → take n a ≡ take n b
+alike : (a b : List ℕ) → Agree a b → (n : ℕ) → n ≡ name_bytes * in_both a b → take n a ≡ take n b
 alike a b h n e =
-    ap (λ (k : ℕ). take k a) e ∙ agreeing-bytes a b (inBoth a b) (omega arith) ∙ ap (λ (k : ℕ). take k b) (sym e)
+    ap (λ (k : ℕ). take k a) e ∙ agreeing-bytes a b (in_both a b) (omega arith) ∙ ap (λ (k : ℕ). take k b) (sym e)
 
 -- a list that begins another has its names
-begins-name : (a b rest : List ℕ) → a ++ rest ≡ b → (i : ℕ) → nameBytes * i + nameBytes ≤ length a → nameFrom a (nameBytes * i) ≡ nameFrom b (nameBytes * i)
+begins-name : (a b rest : List ℕ) → a ++ rest ≡ b → (i : ℕ) → name_bytes * i + name_bytes ≤ length a → name_from a (name_bytes * i) ≡ name_from b (name_bytes * i)
 begins-name a b rest e i l =
-    let k = nameBytes * i in
-    sym (take-append-le nameBytes (drop k a) rest (omega (arith, length-drop k a)))
-    ∙ ap (λ (l : List ℕ). take nameBytes l) (sym (drop-append-le k a rest (omega arith)))
-    ∙ ap (λ (l : List ℕ). nameFrom l k) e
+    let k = name_bytes * i in
+    sym (take-append-le name_bytes (drop k a) rest (omega (arith, length-drop k a)))
+    ∙ ap (λ (l : List ℕ). take name_bytes l) (sym (drop-append-le k a rest (omega arith)))
+    ∙ ap (λ (l : List ℕ). name_from l k) e
 
 module _ (a b : List ℕ) where
   said : (x : Relation) → relation a b ≡ x → Says a b x
@@ -202,24 +202,24 @@ module _ (a b : List ℕ) where
       sym (take-length a) ∙ alike a b h.0 (length a) (omega arith) ∙ take_all (length a) b (omega arith)
 
   pub first-longer-tail : relation a b ≡ Relation.FirstLonger → b ++ tail a b ≡ a
-  unfolding tail tailOf
+  unfolding tail tail_of
   first-longer-tail r =
       let h = said Relation.FirstLonger r in
-      ap (λ (x : Relation). b ++ tailOf x a b) r
+      ap (λ (x : Relation). b ++ tail_of x a b) r
       ∙ ap (λ (l : List ℕ). l ++ drop (length b) a) (sym (alike a b h.0 (length b) (omega arith) ∙ take-length b))
       ∙ take-append-drop (length b) a
 
   pub second-longer-tail : relation a b ≡ Relation.SecondLonger → a ++ tail a b ≡ b
-  unfolding tail tailOf
+  unfolding tail tail_of
   second-longer-tail r =
       let h = said Relation.SecondLonger r in
-      ap (λ (x : Relation). a ++ tailOf x a b) r
+      ap (λ (x : Relation). a ++ tail_of x a b) r
       ∙ ap (λ (l : List ℕ). l ++ drop (length a) b) (sym (take-length a) ∙ alike a b h.0 (length a) (omega arith))
       ∙ take-append-drop (length a) b
 
   -- where the names that both have agree, the relation is 0, 1 or 2
-  agree-number : Agree a b → relationNumber (relation a b) ≤ 2
-  unfolding relationNumber
+  agree-number : Agree a b → relation_number (relation a b) ≤ 2
+  unfolding relation_number
   agree-number h =
       elim (dec_lt (length a) (length b)) [
         | yes s ↦ rw (relation-is a b Relation.SecondLonger (h, s)) (omega arith)
@@ -230,20 +230,20 @@ module _ (a b : List ℕ) where
             ]
       ]
 
-  alike-agree : Whole a b → ((i : ℕ) → i < inBoth a b → nameFrom a (nameBytes * i) ≡ nameFrom b (nameBytes * i)) → Agree a b
-  alike-agree w e = (w, agreeing-all a b (λ i m. ap (λ (x : List ℕ). same x (nameFrom b (nameBytes * i))) (e i m) ∙ same_refl (nameFrom b (nameBytes * i))))
+  alike-agree : Whole a b → ((i : ℕ) → i < in_both a b → name_from a (name_bytes * i) ≡ name_from b (name_bytes * i)) → Agree a b
+  alike-agree w e = (w, agreeing-all a b (λ i m. ap (λ (x : List ℕ). same x (name_from b (name_bytes * i))) (e i m) ∙ same_refl (name_from b (name_bytes * i))))
 
   -- of two lists of whole names one of which begins with the other the relation is 0, 1 or 2 ..
-  pub begins-no-fork : Whole a b → Begins a b ⊎ Begins b a → relationNumber (relation a b) ≤ 2
+  pub begins-no-fork : Whole a b → Begins a b ⊎ Begins b a → relation_number (relation a b) ≤ 2
   begins-no-fork w (inl (rest, e)) = agree-number (alike-agree w (λ i m. begins-name a b rest e i (omega arith)))
   begins-no-fork w (inr (rest, e)) = agree-number (alike-agree w (λ i m. sym (begins-name b a rest e i (omega arith))))
 
   -- .. and only of such
-  pub no-fork-begins : relationNumber (relation a b) ≤ 2 → Begins a b ⊎ Begins b a
-  unfolding relationNumber
+  pub no-fork-begins : relation_number (relation a b) ≤ 2 → Begins a b ⊎ Begins b a
+  unfolding relation_number
   no-fork-begins h = found (relation a b) refl h
     where
-      found : (x : Relation) → relation a b ≡ x → relationNumber x ≤ 2 → Begins a b ⊎ Begins b a
+      found : (x : Relation) → relation a b ≡ x → relation_number x ≤ 2 → Begins a b ⊎ Begins b a
       found Relation.Equal r l = inl ([], append-nil a ∙ equal-same r)
       found Relation.FirstLonger r l = inr (tail a b, first-longer-tail r)
       found Relation.SecondLonger r l = inl (tail a b, second-longer-tail r)
@@ -254,23 +254,23 @@ module _ (a b : List ℕ) where
 
 module _ (a b : List ℕ) (p q : ℕ × ℕ) (y : Relation) (found : y ≡ relation a b) where
   abbrev pub TailIs : List ℕ → ℕ × ℕ → Type 0
-  TailIs l start = (l ≡ tail a b) × (start ≡ tailStart (relation a b) a b p q)
+  TailIs l start = (l ≡ tail a b) × (start ≡ tail_start (relation a b) a b p q)
 
-  tail-is : (x : Relation) → y ≡ x → TailIs (tailOf x a b) (tailStart x a b p q)
+  tail-is : (x : Relation) → y ≡ x → TailIs (tail_of x a b) (tail_start x a b p q)
   unfolding tail
-  tail-is x e = (ap (λ (z : Relation). tailOf z a b) (sym e ∙ found), ap (λ (z : Relation). tailStart z a b p q) (sym e ∙ found))
+  tail-is x e = (ap (λ (z : Relation). tail_of z a b) (sym e ∙ found), ap (λ (z : Relation). tail_start z a b p q) (sym e ∙ found))
 
-  pub empty-tail : (x : Relation) → tailOf x a b ≡ [] → tailStart x a b p q ≡ p → y ≡ x → TailIs [] (past p 0)
+  pub empty-tail : (x : Relation) → tail_of x a b ≡ [] → tail_start x a b p q ≡ p → y ≡ x → TailIs [] (past p 0)
   empty-tail x none start e =
       let here : past p 0 ≡ p = ap (λ (k : ℕ). (p.0, k)) (omega arith) in
       (sym none ∙ (tail-is x e).0, here ∙ sym start ∙ (tail-is x e).1)
 
   pub first_tail : y ≡ Relation.FirstLonger → TailIs (take (length a - length b) (drop (length b) a)) (past p (length b))
-  unfolding tailOf tailStart
+  unfolding tail_of tail_start
   first_tail e =
       (take_all (length a - length b) (drop (length b) a) (omega (arith, length-drop (length b) a)) ∙ (tail-is Relation.FirstLonger e).0, (tail-is Relation.FirstLonger e).1)
 
   pub second-tail : y ≡ Relation.SecondLonger → TailIs (take (length b - length a) (drop (length a) b)) (past q (length a))
-  unfolding tailOf tailStart
+  unfolding tail_of tail_start
   second-tail e =
       (take_all (length b - length a) (drop (length a) b) (omega (arith, length-drop (length a) b)) ∙ (tail-is Relation.SecondLonger e).0, (tail-is Relation.SecondLonger e).1)

@@ -8,9 +8,9 @@ past start k = (start.0, k + start.1)
 
 -- where the tail of two lists starts that start at p and q: in the longer list, as far in as the other is long;
 -- "empty for relations 0, 3 and 4, where it is the empty start of the first list"
-unfoldable pub tailStart : Relation → List ℕ → List ℕ → ℕ × ℕ → ℕ × ℕ → ℕ × ℕ
-tailStart Relation.Equal a b p q = p
-tailStart Relation.FirstLonger a b p q = past p (length b)
-tailStart Relation.SecondLonger a b p q = past q (length a)
-tailStart (Relation.Fork k) a b p q = p
-tailStart Relation.Broken a b p q = p
+unfoldable pub tail_start : Relation → List ℕ → List ℕ → ℕ × ℕ → ℕ × ℕ → ℕ × ℕ
+tail_start Relation.Equal a b p q = p
+tail_start Relation.FirstLonger a b p q = past p (length b)
+tail_start Relation.SecondLonger a b p q = past q (length a)
+tail_start (Relation.Fork k) a b p q = p
+tail_start Relation.Broken a b p q = p

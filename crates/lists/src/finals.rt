@@ -1,10 +1,10 @@
 // The final list: "names from the first block after genesis to the kept final block".
 
 ghost use Rattle.std.specs.Prelude.{◌≡◌, ◌&&◌, true, ◌++◌, ◌+◌, ◌*◌, ◌≤◌, leb, ltb, drop, length, take};
-ghost use Rattle.table.specs.Rows.{capacity, nameBytes};
+ghost use Rattle.table.specs.Rows.{capacity, name_bytes};
 ghost use Rattle.table.specs.Scan.{pick};
-ghost use Rattle.pala.specs.Lists.{Listed, finalList, finalNames, joined};
-ghost use Rattle.pala.specs.Shape.{wellShaped};
+ghost use Rattle.pala.specs.Lists.{Listed, final_list, final_names, joined};
+ghost use Rattle.pala.specs.Shape.{well_shaped};
 
 use crate::NAME;
 use shape::well_shaped;
@@ -42,7 +42,7 @@ fn lower(up: u32, p: u32) -> u32
 
 // How many names the final list has.
 pub fn final_count(s: State) -> u32
-    ensures { result ≡ length (finalNames s) }
+    ensures { result ≡ length (final_names s) }
 {
     let last = s.count;
     let mut n: u32 = 0;
@@ -57,8 +57,8 @@ pub fn final_count(s: State) -> u32
 
 // Puts a name into a list of bytes, its first byte at `at`.
 fn put_name(list: &mut [u8], at: usize, name: [u8; 32])
-    requires { at + nameBytes ≤ length list.old }
-    ensures { list.new ≡ take at list.old ++ name ++ drop (at + nameBytes) list.old }
+    requires { at + name_bytes ≤ length list.old }
+    ensures { list.new ≡ take at list.old ++ name ++ drop (at + name_bytes) list.old }
 {
     let mut k: usize = 0;
     while k < NAME {
@@ -69,8 +69,8 @@ fn put_name(list: &mut [u8], at: usize, name: [u8; 32])
 
 // The names of a final list, from the kept block's down, each in front of the one before.
 fn write_names(s: State, list: &mut [u8], count: u32)
-    requires { (count ≡ length (finalNames s)) × (nameBytes * count ≤ length list.old) }
-    ensures { list.new ≡ joined (finalNames s) ++ drop (nameBytes * length (finalNames s)) list.old }
+    requires { (count ≡ length (final_names s)) × (name_bytes * count ≤ length list.old) }
+    ensures { list.new ≡ joined (final_names s) ++ drop (name_bytes * length (final_names s)) list.old }
 {
     let last = s.count;
     let mut at = NAME * (count as usize);
@@ -87,8 +87,8 @@ fn write_names(s: State, list: &mut [u8], count: u32)
 
 // The final list of a state that is known to be well shaped; "3 for too little room, nothing written".
 pub fn final_list_shaped(s: State, list: &mut [u8]) -> Listing
-    requires { wellShaped s ≡ true }
-    ensures { ◌≡◌ {A = Listed} (record { answer = result.answer; count = result.count; list = list.new }) (finalList s list.old) }
+    requires { well_shaped s ≡ true }
+    ensures { ◌≡◌ {A = Listed} (record { answer = result.answer; count = result.count; list = list.new }) (final_list s list.old) }
 {
     let count = final_count(s);
     if list.len() < NAME * (count as usize) {
@@ -106,7 +106,7 @@ pub fn final_list_shaped(s: State, list: &mut [u8]) -> Listing
 
 // "1 for a badly shaped state, 3 for too little room, nothing written. A torn state can be read."
 pub fn final_list(s: State, list: &mut [u8]) -> Listing
-    ensures { ◌≡◌ {A = Listed} (record { answer = result.answer; count = result.count; list = list.new }) (finalList s list.old) }
+    ensures { ◌≡◌ {A = Listed} (record { answer = result.answer; count = result.count; list = list.new }) (final_list s list.old) }
 {
     if !well_shaped(s) {
         return Listing {

@@ -2,9 +2,9 @@
 
 ghost use Rattle.std.specs.Prelude.{◌≡◌, ◌+◌, ◌*◌, ◌/◌, ◌^◌, ◌<◌, ◌≤◌, min, drop, length, take};
 ghost use Rattle.table.specs.Bytes.{same};
-ghost use Rattle.table.specs.Rows.{nameBytes};
-ghost use Rattle.pala.specs.Lists.{agreeing, relation, relationCode, relationIndex, tail};
-ghost use Rattle.lists.specs.Tails.{tailStart};
+ghost use Rattle.table.specs.Rows.{name_bytes};
+ghost use Rattle.pala.specs.Lists.{agreeing, relation, relation_code, relation_index, tail};
+ghost use Rattle.lists.specs.Tails.{tail_start};
 
 use crate::NAME;
 use table::Relation;
@@ -24,8 +24,8 @@ const BROKEN: u64 = 4 * UNIT;
 
 // Are the names that start at `from` in two lists the same.
 fn same_at(a: &[u8], b: &[u8], from: usize) -> bool
-    requires { (from + nameBytes ≤ length a.now) × (from + nameBytes ≤ length b.now) }
-    ensures { result ≡ same (take nameBytes (drop from a.now)) (take nameBytes (drop from b.now)) }
+    requires { (from + name_bytes ≤ length a.now) × (from + name_bytes ≤ length b.now) }
+    ensures { result ≡ same (take name_bytes (drop from a.now)) (take name_bytes (drop from b.now)) }
 {
     let mut k: usize = 0;
     while k < NAME {
@@ -39,7 +39,7 @@ fn same_at(a: &[u8], b: &[u8], from: usize) -> bool
 
 // How many whole names both lists have.
 fn in_both(a: &[u8], b: &[u8]) -> usize
-    ensures { result ≡ min (length a.now / nameBytes) (length b.now / nameBytes) }
+    ensures { result ≡ min (length a.now / name_bytes) (length b.now / name_bytes) }
 {
     let first = a.len() / NAME;
     let second = b.len() / NAME;
@@ -89,8 +89,8 @@ pub fn relation(a: &[u8], b: &[u8]) -> Relation
 
 // The number and the index of a relation in one, where the index leaves room for the number.
 fn code_of(x: Relation) -> u64
-    requires { relationIndex x < 2 ^ 60 }
-    ensures { result ≡ relationCode x }
+    requires { relation_index x < 2 ^ 60 }
+    ensures { result ≡ relation_code x }
 {
     match x {
         Relation::Equal => EQUAL,
@@ -103,7 +103,7 @@ fn code_of(x: Relation) -> u64
 
 // "The relation reaches C as relation x 2^60 + index."
 pub fn code(a: &[u8], b: &[u8]) -> u64
-    ensures { result ≡ relationCode (relation a.now b.now) }
+    ensures { result ≡ relation_code (relation a.now b.now) }
 {
     code_of(relation(a, b))
 }
@@ -111,7 +111,7 @@ pub fn code(a: &[u8], b: &[u8]) -> u64
 // "the tail of whichever list is longer, as a part of that caller's own slice": its bytes, and where it starts.
 pub fn tail<'a>(a: &'a [u8], b: &'a [u8]) -> &'a [u8]
     ensures result_value { result.now ≡ tail a.now b.now }
-    ensures ref_ptr_value { result.ref_ptr ≡ tailStart (relation a.now b.now) a.now b.now a.entry.ref_ptr b.entry.ref_ptr }
+    ensures ref_ptr_value { result.ref_ptr ≡ tail_start (relation a.now b.now) a.now b.now a.entry.ref_ptr b.entry.ref_ptr }
 {
     let x = relation(a, b);
     match x {

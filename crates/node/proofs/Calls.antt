@@ -10,24 +10,24 @@ use Rattle.table.specs.declared.Answer.{Answer}
 use Rattle.table.specs.declared.Place.{Place}
 use Rattle.table.specs.declared.State.{State}
 use Rattle.table.specs.Scan.{pick}
-use Rattle.table.specs.Rows.{capacity, fresh, allZero}
+use Rattle.table.specs.Rows.{capacity, fresh, all_zero}
 use Rattle.table.proofs.Laws.{pick_yes, pick_no}
-use Rattle.pala.specs.Answers.{taken, badLength, lowestOf, shapedRows, all_rows}
-use Rattle.pala.specs.Counts.{topEpoch, nodes}
+use Rattle.pala.specs.Answers.{taken, bad_length, lowest_of, shaped_rows, all_rows}
+use Rattle.pala.specs.Counts.{top_epoch, nodes}
 use Rattle.pala.specs.Effects.{effect, sent}
-use Rattle.pala.specs.Record.{recordBytes}
+use Rattle.pala.specs.Record.{record_bytes}
 use Rattle.pala.specs.Run.{lent}
-use Rattle.pala.specs.Shape.{wellShaped}
-use Rattle.pala.specs.Step.{Outcome, Started, outcome, room, stepShaped, step, start}
-use Rattle.pala.specs.Steps.{freshEpoch, settled}
+use Rattle.pala.specs.Shape.{well_shaped}
+use Rattle.pala.specs.Step.{Outcome, Started, outcome, room, step_shaped, step, start}
+use Rattle.pala.specs.Steps.{fresh_epoch, settled}
 use Rattle.pala.proofs.Calls.{step_is, step-any-out}
 use Rattle.pala.proofs.Moves.{passed}
 use Rattle.pala.proofs.Shapes.{and_l}
 use Rattle.record.specs.declared.Fields.{Fields}
-use Rattle.record.specs.Fields.{fields_of, noFields}
+use Rattle.record.specs.Fields.{fields_of, no_fields}
 use Rattle.node.specs.declared.Decision.{Decision}
 use Rattle.node.specs.declared.Move.{Move}
-use Rattle.node.specs.Moves.{moveBy, placeFor, decided, decision, Granted}
+use Rattle.node.specs.Moves.{move_by, place_for, decided, decision, Granted}
 use Rattle.node.proofs.Ways.{through, row-yes, row-no}
 use Rattle.node.proofs.Ways.Through.{refuses, passes, rests}
 use Rattle.node.proofs.Settles.{effect-fresh}
@@ -51,114 +51,114 @@ module _ (s : State) (r out : List ℕ) {a : Answer} where
       ap (λ (x : State). replied a x o) (e ∙ sym (pick_yes (taken a) (settled (effect s r)) s h))
       ∙ ap (λ (x : List ℕ). replied a (pick (taken a) (settled (effect s r)) s) x) (d ∙ sym (pick_yes (taken a) (sent s r out) out h))
 
-  pub call-refused : taken a ≡ false → lowestOf (shapedRows room s r out) ≡ a → replied a s out ≡ stepShaped room s r out
-  unfolding stepShaped
+  pub call-refused : taken a ≡ false → lowest_of (shaped_rows room s r out) ≡ a → replied a s out ≡ step_shaped room s r out
+  unfolding step_shaped
   call-refused h e = outcome-refused h ∙ ap (λ (x : Answer). outcome x s r out) (sym e)
 
-  pub call-taken : {t : State} {o : List ℕ} → taken a ≡ true → lowestOf (shapedRows room s r out) ≡ a → t ≡ settled (effect s r) → o ≡ sent s r out → replied a t o ≡ stepShaped room s r out
-  unfolding stepShaped
+  pub call-taken : {t : State} {o : List ℕ} → taken a ≡ true → lowest_of (shaped_rows room s r out) ≡ a → t ≡ settled (effect s r) → o ≡ sent s r out → replied a t o ≡ step_shaped room s r out
+  unfolding step_shaped
   call-taken h e w d = outcome-taken h w d ∙ ap (λ (x : Answer). outcome x s r out) (sym e)
 
 -- ---- rows 2 and 3
 
 module _ (r out : List ℕ) where
-  pub record-off : (length r ≡ recordBytes → ⊥) → badLength r out ≡ true
-  unfolding badLength
-  record-off h = ap (λ (b : Bool). not (b && eqb (length out) recordBytes)) (ne_eqb (length r) recordBytes h)
+  pub record-off : (length r ≡ record_bytes → ⊥) → bad_length r out ≡ true
+  unfolding bad_length
+  record-off h = ap (λ (b : Bool). not (b && eqb (length out) record_bytes)) (ne_eqb (length r) record_bytes h)
 
-  pub out-off : (length out ≡ recordBytes → ⊥) → badLength r out ≡ true
-  unfolding badLength
+  pub out-off : (length out ≡ record_bytes → ⊥) → bad_length r out ≡ true
+  unfolding bad_length
   out-off h =
-      ap (λ (b : Bool). not (eqb (length r) recordBytes && b)) (ne_eqb (length out) recordBytes h) ∙ ap not (and-false (eqb (length r) recordBytes))
+      ap (λ (b : Bool). not (eqb (length r) record_bytes && b)) (ne_eqb (length out) record_bytes h) ∙ ap not (and-false (eqb (length r) record_bytes))
 
-  pub both-whole : length r ≡ recordBytes → length out ≡ recordBytes → badLength r out ≡ false
-  unfolding badLength
+  pub both-whole : length r ≡ record_bytes → length out ≡ record_bytes → bad_length r out ≡ false
+  unfolding bad_length
   both-whole h k =
-      ap (λ (b : Bool). not (b && eqb (length out) recordBytes)) (eq-eqb (length r) recordBytes h)
-      ∙ ap (λ (b : Bool). not b) (eq-eqb (length out) recordBytes k)
+      ap (λ (b : Bool). not (b && eqb (length out) record_bytes)) (eq-eqb (length r) record_bytes h)
+      ∙ ap (λ (b : Bool). not b) (eq-eqb (length out) record_bytes k)
 
 module _ (s : State) (r out : List ℕ) where
-  pub row-torn : s.torn ≡ true → lowestOf (shapedRows room s r out) ≡ Answer.Torn
-  unfolding shapedRows
-  row-torn h = row-yes s.torn Answer.Torn (drop 1 (shapedRows room s r out)) h
+  pub row-torn : s.torn ≡ true → lowest_of (shaped_rows room s r out) ≡ Answer.Torn
+  unfolding shaped_rows
+  row-torn h = row-yes s.torn Answer.Torn (drop 1 (shaped_rows room s r out)) h
 
-  pub row-length : s.torn ≡ false → badLength r out ≡ true → lowestOf (shapedRows room s r out) ≡ Answer.Length
-  unfolding shapedRows
+  pub row-length : s.torn ≡ false → bad_length r out ≡ true → lowest_of (shaped_rows room s r out) ≡ Answer.Length
+  unfolding shaped_rows
   row-length w h =
-      row-no s.torn Answer.Torn (drop 1 (shapedRows room s r out)) w
-      ∙ row-yes (badLength r out) Answer.Length (drop 2 (shapedRows room s r out)) h
+      row-no s.torn Answer.Torn (drop 1 (shaped_rows room s r out)) w
+      ∙ row-yes (bad_length r out) Answer.Length (drop 2 (shaped_rows room s r out)) h
 
 -- ---- what is decided of a record of any length
 
 -- the out buffer that a loop lends has 96 bytes
-lent-whole : length lent ≡ recordBytes
+lent-whole : length lent ≡ record_bytes
 unfolding lent
-lent-whole = length-replicate {A = ℕ} recordBytes 0
+lent-whole = length-replicate {A = ℕ} record_bytes 0
 
 module _ (s : State) (r : List ℕ) where
-  decision-by : {f : Fields} {m : Move} → f ≡ pick (eqb (length r) recordBytes) (fields_of r) noFields → m ≡ moveBy (shapedRows room s r lent) (placeFor s r) → record { fields = f; answer = m.answer; place = m.place } ≡ decision s r
+  decision-by : {f : Fields} {m : Move} → f ≡ pick (eqb (length r) record_bytes) (fields_of r) no_fields → m ≡ move_by (shaped_rows room s r lent) (place_for s r) → record { fields = f; answer = m.answer; place = m.place } ≡ decision s r
   unfolding decision
   decision-by e h = λ i. record { fields = e i; answer = (h i).answer; place = (h i).place }
 
-  module _ {f : Fields} (e : f ≡ pick (eqb (length r) recordBytes) (fields_of r) noFields) where
+  module _ {f : Fields} (e : f ≡ pick (eqb (length r) record_bytes) (fields_of r) no_fields) where
     pub decided-torn : s.torn ≡ true → record { fields = f; answer = Answer.Torn; place = record { 0 = 0 } } ≡ decision s r
-    unfolding shapedRows taken
+    unfolding shaped_rows taken
     decided-torn h = decision-by e (through (refuses h refl))
 
-    pub decided-short : s.torn ≡ false → (length r ≡ recordBytes → ⊥) → record { fields = f; answer = Answer.Length; place = record { 0 = 0 } } ≡ decision s r
-    unfolding shapedRows taken
+    pub decided-short : s.torn ≡ false → (length r ≡ record_bytes → ⊥) → record { fields = f; answer = Answer.Length; place = record { 0 = 0 } } ≡ decision s r
+    unfolding shaped_rows taken
     decided-short w h = decision-by e (through (passes w (refuses (record-off r lent h) refl)))
 
-    pub decided-whole : {m : Move} → s.torn ≡ false → length r ≡ recordBytes → ((x : List ℕ) → f ≡ fields_of x → m ≡ decided s x) → record { fields = f; answer = m.answer; place = m.place } ≡ decision s r
-    unfolding shapedRows decided
+    pub decided-whole : {m : Move} → s.torn ≡ false → length r ≡ record_bytes → ((x : List ℕ) → f ≡ fields_of x → m ≡ decided s x) → record { fields = f; answer = m.answer; place = m.place } ≡ decision s r
+    unfolding shaped_rows decided
     decided-whole w h d =
         decision-by e
-        (through {p = placeFor s r}
+        (through {p = place_for s r}
         (passes w
-        (passes {more = drop 2 (shapedRows room s r lent)} (both-whole r lent h lent-whole)
-        (rests (d r (e ∙ pick_yes (eqb (length r) recordBytes) (fields_of r) noFields (eq-eqb (length r) recordBytes h)))))))
+        (passes {more = drop 2 (shaped_rows room s r lent)} (both-whole r lent h lent-whole)
+        (rests (d r (e ∙ pick_yes (eqb (length r) record_bytes) (fields_of r) no_fields (eq-eqb (length r) record_bytes h)))))))
 
   -- a record that is taken is whole
-  taken-whole : taken (lowestOf (shapedRows room s r lent)) ≡ true → eqb (length r) recordBytes ≡ true
-  unfolding badLength
-  taken-whole h = and_l (eqb (length r) recordBytes) (eqb (length lent) recordBytes) (not-false _ (passed room s r lent h).lengths)
+  taken-whole : taken (lowest_of (shaped_rows room s r lent)) ≡ true → eqb (length r) record_bytes ≡ true
+  unfolding bad_length
+  taken-whole h = and_l (eqb (length r) record_bytes) (eqb (length lent) record_bytes) (not-false _ (passed room s r lent h).lengths)
 
   pub granted : {d : Decision} → d ≡ decision s r → taken d.answer ≡ true → Granted s d.fields d.place r
-  unfolding decision moveBy
+  unfolding decision move_by
   granted e t =
-      let takes : taken (lowestOf (shapedRows room s r lent)) ≡ true = ap (λ (x : Decision). taken x.answer) (sym e) ∙ t in
+      let takes : taken (lowest_of (shaped_rows room s r lent)) ≡ true = ap (λ (x : Decision). taken x.answer) (sym e) ∙ t in
       record {
         out = lent;
-        fields = ap (λ (x : Decision). x.fields) e ∙ pick_yes (eqb (length r) recordBytes) (fields_of r) noFields (taken-whole takes);
+        fields = ap (λ (x : Decision). x.fields) e ∙ pick_yes (eqb (length r) record_bytes) (fields_of r) no_fields (taken-whole takes);
         takes = takes;
-        there = ap (λ (x : Decision). x.place.0) e ∙ pick_yes (taken (lowestOf (shapedRows room s r lent))) (placeFor s r) 0 takes;
+        there = ap (λ (x : Decision). x.place.0) e ∙ pick_yes (taken (lowest_of (shaped_rows room s r lent))) (place_for s r) 0 takes;
       }
 
   -- ---- the decision and the call on a well-shaped state
 
-  module _ (h : wellShaped s ≡ true) where
+  module _ (h : well_shaped s ≡ true) where
     pub decided-answer : (decision s r).answer ≡ (step s r lent).answer
-    unfolding decision moveBy stepShaped outcome
+    unfolding decision move_by step_shaped outcome
     decided-answer = sym (ap (λ (o : Outcome). o.answer) (step_is s r lent h))
 
     -- "Otherwise .. state and out buffer come back the same"
     pub decided-same : {d : Decision} → d ≡ decision s r → taken d.answer ≡ false → (step s r lent).state ≡ s
-    unfolding decision moveBy stepShaped outcome
+    unfolding decision move_by step_shaped outcome
     decided-same e t =
         ap (λ (o : Outcome). o.state) (step_is s r lent h)
-        ∙ pick_no (taken (lowestOf (shapedRows room s r lent))) (settled (effect s r)) s (ap (λ (x : Decision). taken x.answer) (sym e) ∙ t)
+        ∙ pick_no (taken (lowest_of (shaped_rows room s r lent))) (settled (effect s r)) s (ap (λ (x : Decision). taken x.answer) (sym e) ∙ t)
 
     -- "First the direct effect. Then, always in this order"
     pub decided-taken : {d : Decision} → d ≡ decision s r → taken d.answer ≡ true → settled (effect s r) ≡ (step s r lent).state
-    unfolding decision moveBy stepShaped outcome
+    unfolding decision move_by step_shaped outcome
     decided-taken e t =
         sym
         (ap (λ (o : Outcome). o.state) (step_is s r lent h)
-        ∙ pick_yes (taken (lowestOf (shapedRows room s r lent))) (settled (effect s r)) s (ap (λ (x : Decision). taken x.answer) (sym e) ∙ t))
+        ∙ pick_yes (taken (lowest_of (shaped_rows room s r lent))) (settled (effect s r)) s (ap (λ (x : Decision). taken x.answer) (sym e) ∙ t))
 
     -- any buffer of 96 bytes is answered as the lent one
-    pub decided-rows : (out : List ℕ) {d : Decision} → length out ≡ recordBytes → d ≡ decision s r → lowestOf (shapedRows room s r out) ≡ d.answer
-    unfolding stepShaped outcome
+    pub decided-rows : (out : List ℕ) {d : Decision} → length out ≡ record_bytes → d ≡ decision s r → lowest_of (shaped_rows room s r out) ≡ d.answer
+    unfolding step_shaped outcome
     decided-rows out l e =
         ap (λ (o : Outcome). o.answer) (sym (step_is s r out h))
         ∙ (step-any-out s r out lent l lent-whole).1
@@ -166,23 +166,23 @@ module _ (s : State) (r : List ℕ) where
 
 -- after its direct effect there is an epoch above the freshest one
 pub granted-fresh :
-    {s t : State} {f : Fields} {place : Place} {r : List ℕ} → length s.blocks ≡ suc capacity → wellShaped s ≡ true →
-    Granted s f place r → t ≡ effect s r → freshEpoch t < topEpoch
+    {s t : State} {f : Fields} {place : Place} {r : List ℕ} → length s.blocks ≡ suc capacity → well_shaped s ≡ true →
+    Granted s f place r → t ≡ effect s r → fresh_epoch t < top_epoch
 granted-fresh {s} {r = r} l h g e =
-    subst (λ (x : State). freshEpoch x < topEpoch) (sym e) (effect-fresh s r g.out l h g.takes)
+    subst (λ (x : State). fresh_epoch x < top_epoch) (sym e) (effect-fresh s r g.out l h g.takes)
 
 -- ---- any state
 
-pub call-unshaped : (s : State) (r out : List ℕ) → wellShaped s ≡ false → replied Answer.State s out ≡ step s r out
+pub call-unshaped : (s : State) (r out : List ℕ) → well_shaped s ≡ false → replied Answer.State s out ≡ step s r out
 unfolding step all_rows taken
 call-unshaped s r out h =
     outcome-refused s r out refl
-    ∙ ap (λ (x : Answer). outcome x s r out) (sym (row-yes (not (wellShaped s)) Answer.State (shapedRows room s r out) (ap not h)))
+    ∙ ap (λ (x : Answer). outcome x s r out) (sym (row-yes (not (well_shaped s)) Answer.State (shaped_rows room s r out) (ap not h)))
 
-pub call-shaped : (s : State) (r out : List ℕ) → wellShaped s ≡ true → stepShaped room s r out ≡ step s r out
-unfolding step stepShaped all_rows
+pub call-shaped : (s : State) (r out : List ℕ) → well_shaped s ≡ true → step_shaped room s r out ≡ step s r out
+unfolding step step_shaped all_rows
 call-shaped s r out h =
-    ap (λ (x : Answer). outcome x s r out) (sym (row-no (not (wellShaped s)) Answer.State (shapedRows room s r out) (ap not h)))
+    ap (λ (x : Answer). outcome x s r out) (sym (row-no (not (well_shaped s)) Answer.State (shaped_rows room s r out) (ap not h)))
 
 -- ---- a start
 
@@ -190,14 +190,14 @@ abbrev pub began : Answer → State → Started
 began a t = record { answer = a; state = t }
 
 module _ (n own : ℕ) {t : State} where
-  pub start-refused : nodes n own ≡ false → t ≡ allZero → began Answer.Setup t ≡ start n own
+  pub start-refused : nodes n own ≡ false → t ≡ all_zero → began Answer.Setup t ≡ start n own
   unfolding start
   start-refused h e =
-      ap (λ (x : State). began Answer.Setup x) (e ∙ sym (pick_no (nodes n own) (fresh n own) allZero h))
-      ∙ ap (λ (a : Answer). began a (pick (nodes n own) (fresh n own) allZero)) (sym (pick_no (nodes n own) Answer.Taken Answer.Setup h))
+      ap (λ (x : State). began Answer.Setup x) (e ∙ sym (pick_no (nodes n own) (fresh n own) all_zero h))
+      ∙ ap (λ (a : Answer). began a (pick (nodes n own) (fresh n own) all_zero)) (sym (pick_no (nodes n own) Answer.Taken Answer.Setup h))
 
   pub start-taken : nodes n own ≡ true → t ≡ fresh n own → began Answer.Taken t ≡ start n own
   unfolding start
   start-taken h e =
-      ap (λ (x : State). began Answer.Taken x) (e ∙ sym (pick_yes (nodes n own) (fresh n own) allZero h))
-      ∙ ap (λ (a : Answer). began a (pick (nodes n own) (fresh n own) allZero)) (sym (pick_yes (nodes n own) Answer.Taken Answer.Setup h))
+      ap (λ (x : State). began Answer.Taken x) (e ∙ sym (pick_yes (nodes n own) (fresh n own) all_zero h))
+      ∙ ap (λ (a : Answer). began a (pick (nodes n own) (fresh n own) all_zero)) (sym (pick_yes (nodes n own) Answer.Taken Answer.Setup h))

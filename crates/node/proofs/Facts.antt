@@ -13,11 +13,11 @@ use Rattle.table.specs.declared.Epoch.{Epoch}
 use Rattle.table.specs.declared.Place.{Place}
 use Rattle.table.specs.declared.rows.Found.{Found}
 use Rattle.table.specs.declared.State.{State}
-use Rattle.table.specs.Rows.{capacity, rows, size, at, hasVoter}
+use Rattle.table.specs.Rows.{capacity, rows, size, at, has_voter}
 use Rattle.table.proofs.Laws.{size-rows}
-use Rattle.pala.specs.Rules.{epochAt, freshest}
-use Rattle.pala.specs.Shape.{wellShaped}
-use Rattle.pala.specs.Steps.{freshEpoch}
+use Rattle.pala.specs.Rules.{epoch_at, freshest}
+use Rattle.pala.specs.Shape.{well_shaped}
+use Rattle.pala.specs.Steps.{fresh_epoch}
 use Rattle.pala.proofs.Shapes.{shaped-count}
 use Rattle.rules.specs.declared.Top.{Top}
 
@@ -56,12 +56,12 @@ not-is-no {a} {b} h = ap not (eq-eqb a b h)
 pub found-place : {x : Found} {k : ℕ} {b : Block} → x ≡ record { place = record { 0 = k }; block = b } → x.place.0 ≡ k
 found-place e = ap (λ (y : Found). y.place.0) e
 
-pub epoch-found : (t : List Block) {x : Found} {k : ℕ} → x ≡ record { place = record { 0 = k }; block = at t k } → x.block.epoch.0 ≡ epochAt t k
-unfolding epochAt
+pub epoch-found : (t : List Block) {x : Found} {k : ℕ} → x ≡ record { place = record { 0 = k }; block = at t k } → x.block.epoch.0 ≡ epoch_at t k
+unfolding epoch_at
 epoch-found t e = ap (λ (y : Found). y.block.epoch.0) e
 
-pub voter-found : (t : List Block) (i : ℕ) {v : Bool} {x : Found} {k : ℕ} → v ≡ hasVoter x.block i → x ≡ record { place = record { 0 = k }; block = at t k } → hasVoter (at t k) i ≡ v
-voter-found t i h e = sym (h ∙ ap (λ (y : Found). hasVoter y.block i) e)
+pub voter-found : (t : List Block) (i : ℕ) {v : Bool} {x : Found} {k : ℕ} → v ≡ has_voter x.block i → x ≡ record { place = record { 0 = k }; block = at t k } → has_voter (at t k) i ≡ v
+voter-found t i h e = sym (h ∙ ap (λ (y : Found). has_voter y.block i) e)
 
 -- the place that a rule tells
 pub number : {p : Place} {k : ℕ} → p ≡ record { 0 = k } → p.0 ≡ k
@@ -72,10 +72,10 @@ pub kept-clock : {x : Epoch} {k : ℕ} → x ≡ record { 0 = k } → x.0 ≡ k
 kept-clock e = ap (λ (y : Epoch). y.0) e
 
 -- the epoch of the freshest block
-pub top-epoch : (s : State) {x : Top} → x ≡ record { place = record { 0 = freshest s.n (rows s) }; epoch = record { 0 = freshEpoch s } } → x.epoch.0 ≡ epochAt (rows s) (freshest s.n (rows s))
-unfolding freshEpoch
+pub top-epoch : (s : State) {x : Top} → x ≡ record { place = record { 0 = freshest s.n (rows s) }; epoch = record { 0 = fresh_epoch s } } → x.epoch.0 ≡ epoch_at (rows s) (freshest s.n (rows s))
+unfolding fresh_epoch
 top-epoch s e = ap (λ (x : Top). x.epoch.0) e
 
 -- the root and each block held
-pub sized : (s : State) → wellShaped s ≡ true → length s.blocks ≡ suc capacity → size (rows s) ≡ suc s.count
+pub sized : (s : State) → well_shaped s ≡ true → length s.blocks ≡ suc capacity → size (rows s) ≡ suc s.count
 sized s h l = omega (arith, size-rows s, shaped-count s h)

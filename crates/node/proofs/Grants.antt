@@ -11,12 +11,12 @@ use Rattle.table.specs.declared.Block.{Block}
 use Rattle.table.specs.declared.Place.{Place}
 use Rattle.table.specs.declared.State.{State}
 use Rattle.table.specs.Scan.{pick}
-use Rattle.table.specs.Rows.{capacity, mostNodes, rows, size, find}
-use Rattle.pala.specs.Answers.{badSender, badEpoch, unknown, nothing, full}
-use Rattle.pala.specs.Counts.{topEpoch}
-use Rattle.pala.specs.Effects.{newBlock, withBlock, withVote, withClock, proposalEffect, voteEffect, clockEffect, proposeEffect, castEffect, minuteEffect, effect, picked}
-use Rattle.pala.specs.Record.{kind_of, senderOf, epochOf, name_of, payloadOf, knownKind, proposalHeard, voteHeard, clockHeard, proposeNow, castNow, minuteUp}
-use Rattle.pala.specs.Shape.{wellShaped}
+use Rattle.table.specs.Rows.{capacity, most_nodes, rows, size, find}
+use Rattle.pala.specs.Answers.{bad_sender, bad_epoch, unknown, nothing, full}
+use Rattle.pala.specs.Counts.{top_epoch}
+use Rattle.pala.specs.Effects.{new_block, with_block, with_vote, with_clock, proposal_effect, vote_effect, clock_effect, propose_effect, cast_effect, minute_effect, effect, picked}
+use Rattle.pala.specs.Record.{kind_of, sender_of, epoch_of, name_of, payload_of, known_kind, proposal_heard, vote_heard, clock_heard, propose_now, cast_now, minute_up}
+use Rattle.pala.specs.Shape.{well_shaped}
 use Rattle.pala.specs.Step.{room}
 use Rattle.pala.proofs.Keeps.{size-shaped}
 use Rattle.pala.proofs.Moves.{Passed, passed}
@@ -24,33 +24,33 @@ use Rattle.pala.proofs.Shapes.{and_l, and_r, shaped-nodes}
 use Rattle.pala.proofs.Tests.{nor-l, nor-r, nand}
 use Rattle.record.specs.declared.Fields.{Fields}
 use Rattle.record.specs.Fields.{fields_of}
-use Rattle.node.specs.Moves.{placeFor, Granted}
+use Rattle.node.specs.Moves.{place_for, Granted}
 
 -- ---- the direct effect of each kind
 
-module _ (s : State) (r : List ℕ) (p : ℕ) (there : p ≡ placeFor s r) where
-  proposal-effect : kind_of r ≡ proposalHeard → withBlock s (newBlock (name_of r) (epochOf r) p (payloadOf r)) s.proposed.0 ≡ effect s r
-  unfolding effect proposalEffect placeFor pick
+module _ (s : State) (r : List ℕ) (p : ℕ) (there : p ≡ place_for s r) where
+  proposal-effect : kind_of r ≡ proposal_heard → with_block s (new_block (name_of r) (epoch_of r) p (payload_of r)) s.proposed.0 ≡ effect s r
+  unfolding effect proposal_effect place_for pick
   proposal-effect k = simp (there, k)
 
-  vote-effect : kind_of r ≡ voteHeard → withVote s p (senderOf r) s.voted.0 ≡ effect s r
-  unfolding effect voteEffect placeFor pick
+  vote-effect : kind_of r ≡ vote_heard → with_vote s p (sender_of r) s.voted.0 ≡ effect s r
+  unfolding effect vote_effect place_for pick
   vote-effect k = simp (there, k)
 
-  clock-effect : kind_of r ≡ clockHeard → withClock s (senderOf r) (epochOf r) ≡ effect s r
-  unfolding effect clockEffect pick
+  clock-effect : kind_of r ≡ clock_heard → with_clock s (sender_of r) (epoch_of r) ≡ effect s r
+  unfolding effect clock_effect pick
   clock-effect k = simp k
 
-  propose-effect : kind_of r ≡ proposeNow → withBlock s (newBlock (name_of r) s.local.0 p (payloadOf r)) s.local.0 ≡ effect s r
-  unfolding effect proposeEffect placeFor pick
+  propose-effect : kind_of r ≡ propose_now → with_block s (new_block (name_of r) s.local.0 p (payload_of r)) s.local.0 ≡ effect s r
+  unfolding effect propose_effect place_for pick
   propose-effect k = simp (there, k)
 
-  cast-effect : kind_of r ≡ castNow → withVote s p s.own.0 s.local.0 ≡ effect s r
-  unfolding effect castEffect placeFor pick
+  cast-effect : kind_of r ≡ cast_now → with_vote s p s.own.0 s.local.0 ≡ effect s r
+  unfolding effect cast_effect place_for pick
   cast-effect k = simp (there, k)
 
-  minute-effect : kind_of r ≡ minuteUp → withClock s s.own.0 (s.local.0 + 1) ≡ effect s r
-  unfolding effect minuteEffect pick
+  minute-effect : kind_of r ≡ minute_up → with_clock s s.own.0 (s.local.0 + 1) ≡ effect s r
+  unfolding effect minute_effect pick
   minute-effect k = simp k
 
 -- ---- what the rows passed tell
@@ -68,43 +68,43 @@ module _ {s : State} {f : Fields} {place : Place} {r : List ℕ} (g : Granted s 
   by-fields P h = subst P (sym g.fields) h
 
   -- a kind that is none of the first five is the sixth
-  pub last-kind : (f.kind ≡ proposalHeard → ⊥) → (f.kind ≡ voteHeard → ⊥) → (f.kind ≡ clockHeard → ⊥) → (f.kind ≡ proposeNow → ⊥) → (f.kind ≡ castNow → ⊥) → f.kind ≡ minuteUp
-  unfolding knownKind fields_of
+  pub last-kind : (f.kind ≡ proposal_heard → ⊥) → (f.kind ≡ vote_heard → ⊥) → (f.kind ≡ clock_heard → ⊥) → (f.kind ≡ propose_now → ⊥) → (f.kind ≡ cast_now → ⊥) → f.kind ≡ minute_up
+  unfolding known_kind fields_of
   last-kind a b c d e =
-      let known : knownKind r ≡ true = not-false (knownKind r) rows-passed.kind in
-      let least : proposalHeard ≤ kind_of r = leb-true proposalHeard (kind_of r) (and_l (leb proposalHeard (kind_of r)) (leb (kind_of r) minuteUp) known) in
-      let most : kind_of r ≤ minuteUp = leb-true (kind_of r) minuteUp (and_r (leb proposalHeard (kind_of r)) (leb (kind_of r) minuteUp) known) in
+      let known : known_kind r ≡ true = not-false (known_kind r) rows-passed.kind in
+      let least : proposal_heard ≤ kind_of r = leb-true proposal_heard (kind_of r) (and_l (leb proposal_heard (kind_of r)) (leb (kind_of r) minute_up) known) in
+      let most : kind_of r ≤ minute_up = leb-true (kind_of r) minute_up (and_r (leb proposal_heard (kind_of r)) (leb (kind_of r) minute_up) known) in
       let same : f.kind ≡ kind_of r = ap (λ (x : Fields). x.kind) g.fields in
       omega arith
 
   -- "kinds 1, 4: 64 blocks held"
-  pub room-left : {k : ℕ} → f.kind ≡ k → (eqb k proposalHeard || eqb k proposeNow) ≡ true → s.count < capacity
+  pub room-left : {k : ℕ} → f.kind ≡ k → (eqb k proposal_heard || eqb k propose_now) ≡ true → s.count < capacity
   unfolding full room
   room-left {k} e h =
-      let kinds : (eqb (kind_of r) proposalHeard || eqb (kind_of r) proposeNow) ≡ true = ap (λ (x : ℕ). eqb x proposalHeard || eqb x proposeNow) (of-kind e) ∙ h in
-      ltb-true s.count capacity (not-false (ltb s.count capacity) (nand (eqb (kind_of r) proposalHeard || eqb (kind_of r) proposeNow) (not (ltb s.count capacity)) rows-passed.room kinds))
+      let kinds : (eqb (kind_of r) proposal_heard || eqb (kind_of r) propose_now) ≡ true = ap (λ (x : ℕ). eqb x proposal_heard || eqb x propose_now) (of-kind e) ∙ h in
+      ltb-true s.count capacity (not-false (ltb s.count capacity) (nand (eqb (kind_of r) proposal_heard || eqb (kind_of r) propose_now) (not (ltb s.count capacity)) rows-passed.room kinds))
 
   -- "Kinds 4, 6: local epoch is 4,294,967,295"
-  pub minute-left : f.kind ≡ minuteUp → s.local.0 < topEpoch
-  unfolding badEpoch
-  minute-left e = leb-false topEpoch s.local.0 (simp (of-kind e) at rows-passed.epoch)
+  pub minute-left : f.kind ≡ minute_up → s.local.0 < top_epoch
+  unfolding bad_epoch
+  minute-left e = leb-false top_epoch s.local.0 (simp (of-kind e) at rows-passed.epoch)
 
-  module _ (h : wellShaped s ≡ true) where
+  module _ (h : well_shaped s ≡ true) where
     -- "own number below n", "sender at or above n"
-    pub own_below : s.own.0 < mostNodes
+    pub own_below : s.own.0 < most_nodes
     own_below = omega (arith, shaped-nodes s h)
 
-    pub sender-below : f.sender.0 < mostNodes
-    unfolding badSender fields_of
+    pub sender-below : f.sender.0 < most_nodes
+    unfolding bad_sender fields_of
     sender-below =
-        let same : f.sender.0 ≡ senderOf r = ap (λ (x : Fields). x.sender.0) g.fields in
-        let low : senderOf r < s.n = leb-false s.n (senderOf r) (nor-l _ _ rows-passed.sender) in
+        let same : f.sender.0 ≡ sender_of r = ap (λ (x : Fields). x.sender.0) g.fields in
+        let low : sender_of r < s.n = leb-false s.n (sender_of r) (nor-l _ _ rows-passed.sender) in
         omega (arith, shaped-nodes s h)
 
     module _ (l : length s.blocks ≡ suc capacity) where
       -- "Kind 2: name not in the table"
-      pub vote-held : f.kind ≡ voteHeard → place.0 ≤ s.count
-      unfolding unknown placeFor pick
+      pub vote-held : f.kind ≡ vote_heard → place.0 ≤ s.count
+      unfolding unknown place_for pick
       vote-held e =
           let at-find : place.0 ≡ find (rows s) (name_of r) = g.there ∙ simp (of-kind e) in
           let place_of : ℕ = find (rows s) (name_of r) in
@@ -113,8 +113,8 @@ module _ {s : State} {f : Fields} {place : Place} {r : List ℕ} (g : Granted s 
           omega (arith, size-shaped s l h)
 
       -- "kind 5: no block may be voted for"
-      pub cast-held : f.kind ≡ castNow → place.0 ≤ s.count
-      unfolding nothing placeFor pick picked
+      pub cast-held : f.kind ≡ cast_now → place.0 ≤ s.count
+      unfolding nothing place_for pick picked
       cast-held e =
           let at-picked : place.0 ≡ picked s = g.there ∙ simp (of-kind e) in
           let low : picked s < size (rows s) = leb-false (size (rows s)) (picked s) (simp (of-kind e) at rows-passed.ballots) in
@@ -122,34 +122,34 @@ module _ {s : State} {f : Fields} {place : Place} {r : List ℕ} (g : Granted s 
 
   -- ---- its effect, in the words of the fields
 
-  pub proposal-done : f.kind ≡ proposalHeard → {b : Block} → b ≡ newBlock f.name f.epoch.0 place.0 f.payload → withBlock s b s.proposed.0 ≡ effect s r
+  pub proposal-done : f.kind ≡ proposal_heard → {b : Block} → b ≡ new_block f.name f.epoch.0 place.0 f.payload → with_block s b s.proposed.0 ≡ effect s r
   unfolding fields_of
   proposal-done e new =
-      ap (λ (x : Block). withBlock s x s.proposed.0) new
-      ∙ by-fields (λ (x : Fields). x.kind ≡ proposalHeard → withBlock s (newBlock x.name x.epoch.0 place.0 x.payload) s.proposed.0 ≡ effect s r)
+      ap (λ (x : Block). with_block s x s.proposed.0) new
+      ∙ by-fields (λ (x : Fields). x.kind ≡ proposal_heard → with_block s (new_block x.name x.epoch.0 place.0 x.payload) s.proposed.0 ≡ effect s r)
       (proposal-effect s r place.0 g.there) e
 
-  pub vote-done : f.kind ≡ voteHeard → withVote s place.0 f.sender.0 s.voted.0 ≡ effect s r
+  pub vote-done : f.kind ≡ vote_heard → with_vote s place.0 f.sender.0 s.voted.0 ≡ effect s r
   unfolding fields_of
   vote-done =
-      by-fields (λ (x : Fields). x.kind ≡ voteHeard → withVote s place.0 x.sender.0 s.voted.0 ≡ effect s r)
+      by-fields (λ (x : Fields). x.kind ≡ vote_heard → with_vote s place.0 x.sender.0 s.voted.0 ≡ effect s r)
       (vote-effect s r place.0 g.there)
 
-  pub clock-done : f.kind ≡ clockHeard → withClock s f.sender.0 f.epoch.0 ≡ effect s r
+  pub clock-done : f.kind ≡ clock_heard → with_clock s f.sender.0 f.epoch.0 ≡ effect s r
   unfolding fields_of
   clock-done =
-      by-fields (λ (x : Fields). x.kind ≡ clockHeard → withClock s x.sender.0 x.epoch.0 ≡ effect s r)
+      by-fields (λ (x : Fields). x.kind ≡ clock_heard → with_clock s x.sender.0 x.epoch.0 ≡ effect s r)
       (clock-effect s r place.0 g.there)
 
-  pub propose-done : f.kind ≡ proposeNow → {b : Block} → b ≡ newBlock f.name s.local.0 place.0 f.payload → withBlock s b s.local.0 ≡ effect s r
+  pub propose-done : f.kind ≡ propose_now → {b : Block} → b ≡ new_block f.name s.local.0 place.0 f.payload → with_block s b s.local.0 ≡ effect s r
   unfolding fields_of
   propose-done e new =
-      ap (λ (x : Block). withBlock s x s.local.0) new
-      ∙ by-fields (λ (x : Fields). x.kind ≡ proposeNow → withBlock s (newBlock x.name s.local.0 place.0 x.payload) s.local.0 ≡ effect s r)
+      ap (λ (x : Block). with_block s x s.local.0) new
+      ∙ by-fields (λ (x : Fields). x.kind ≡ propose_now → with_block s (new_block x.name s.local.0 place.0 x.payload) s.local.0 ≡ effect s r)
       (propose-effect s r place.0 g.there) e
 
-  pub cast-done : f.kind ≡ castNow → withVote s place.0 s.own.0 s.local.0 ≡ effect s r
+  pub cast-done : f.kind ≡ cast_now → with_vote s place.0 s.own.0 s.local.0 ≡ effect s r
   cast-done e = cast-effect s r place.0 g.there (of-kind e)
 
-  pub minute-done : f.kind ≡ minuteUp → withClock s s.own.0 (s.local.0 + 1) ≡ effect s r
+  pub minute-done : f.kind ≡ minute_up → with_clock s s.own.0 (s.local.0 + 1) ≡ effect s r
   minute-done e = minute-effect s r place.0 g.there (of-kind e)

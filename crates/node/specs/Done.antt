@@ -1,7 +1,7 @@
 -- What a direct effect makes of a state.
 use Rattle.std.specs.Prelude.{◌≤◌, ◌<◌, ◌≡◌, set}
 use Rattle.table.specs.declared.State.{State}
-use Rattle.table.specs.Rows.{capacity, mostNodes}
+use Rattle.table.specs.Rows.{capacity, most_nodes}
 use Rattle.pala.specs.Effects.{put}
 use Rattle.node.specs.declared.effects.Effect.{Effect}
 
@@ -15,4 +15,4 @@ done s e =
 pub record Does (s : State) (e : Effect) (t : State) : Type 0 where
   pub makes : done s e ≡ t
   pub row : e.row.0 ≤ capacity
-  pub who : e.who.0 < mostNodes
+  pub who : e.who.0 < most_nodes

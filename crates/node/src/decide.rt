@@ -2,8 +2,8 @@
 
 ghost use Rattle.std.specs.Prelude.{ℕ, ◌≤◌, eqb, leb, true, not, List, ◌≡◌};
 ghost use Rattle.table.specs.Scan.{pick};
-ghost use Rattle.pala.specs.Record.{proposalHeard, clockHeard, minuteUp};
-ghost use Rattle.pala.specs.Shape.{wellShaped};
+ghost use Rattle.pala.specs.Record.{proposal_heard, clock_heard, minute_up};
+ghost use Rattle.pala.specs.Shape.{well_shaped};
 ghost use Rattle.record.specs.Fields.{fields_of};
 ghost use Rattle.node.specs.Moves.{decided, judged};
 
@@ -18,7 +18,7 @@ use table::{Answer, NodeNo, State};
 
 // "own number for kinds 1 to 3; another's for 4 to 6"
 fn wrong_number(kind: u32, sender: NodeNo, own: NodeNo) -> bool
-    ensures { result ≡ pick (leb kind clockHeard) (eqb sender.0 own.0) (not (eqb sender.0 own.0)) }
+    ensures { result ≡ pick (leb kind clock_heard) (eqb sender.0 own.0) (not (eqb sender.0 own.0)) }
 {
     let same = sender.0 == own.0;
     if kind <= CLOCK_HEARD {
@@ -29,7 +29,7 @@ fn wrong_number(kind: u32, sender: NodeNo, own: NodeNo) -> bool
 
 // Rows 7 to 14, by kind.
 fn judge(s: State, f: Fields) -> Move
-    requires { (wellShaped s ≡ true) × (proposalHeard ≤ f.kind) × (f.kind ≤ minuteUp) }
+    requires { (well_shaped s ≡ true) × (proposal_heard ≤ f.kind) × (f.kind ≤ minute_up) }
     ensures { (r : List ℕ) → f ≡ fields_of r → result ≡ judged s r }
 {
     let kind = f.kind;
@@ -53,7 +53,7 @@ fn judge(s: State, f: Fields) -> Move
 
 // Rows 4 to 14.
 pub fn decide(s: State, f: Fields) -> Move
-    requires { wellShaped s ≡ true }
+    requires { well_shaped s ≡ true }
     ensures { (r : List ℕ) → f ≡ fields_of r → result ≡ decided s r }
 {
     let kind = f.kind;

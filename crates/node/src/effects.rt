@@ -1,9 +1,9 @@
 // "First the direct effect." It is told in a few numbers and one block, so that only one function makes a new state.
 
 ghost use Rattle.std.specs.Prelude.{ℕ, ◌<◌, ◌≤◌, true, List, ◌≡◌, get_or};
-ghost use Rattle.table.specs.Rows.{at, capacity, mostNodes, rows};
-ghost use Rattle.pala.specs.Effects.{effect, newBlock, withBlock, withClock, withVote};
-ghost use Rattle.pala.specs.Shape.{wellShaped};
+ghost use Rattle.table.specs.Rows.{at, capacity, most_nodes, rows};
+ghost use Rattle.pala.specs.Effects.{effect, new_block, with_block, with_clock, with_vote};
+ghost use Rattle.pala.specs.Shape.{well_shaped};
 ghost use Rattle.node.specs.Done.{Does};
 ghost use Rattle.node.specs.Moves.{Granted};
 
@@ -26,7 +26,7 @@ pub struct Effect {
 
 // A block with no voters.
 fn new_block(name: [u8; 32], epoch: Epoch, parent: Place, payload: [u8; 24]) -> Block
-    ensures { result ≡ newBlock name epoch.0 parent.0 payload }
+    ensures { result ≡ new_block name epoch.0 parent.0 payload }
 {
     Block {
         name: name,
@@ -39,7 +39,7 @@ fn new_block(name: [u8; 32], epoch: Epoch, parent: Place, payload: [u8; 24]) -> 
 
 // A node's clock kept, which is written as it stands.
 fn kept_clock(clocks: [Epoch; 32], who: NodeNo) -> Epoch
-    requires { who.0 < mostNodes }
+    requires { who.0 < most_nodes }
     ensures { result ≡ get_or clocks who.0 (record { 0 = 0 }) }
 {
     let k = who.0;
@@ -49,8 +49,8 @@ fn kept_clock(clocks: [Epoch; 32], who: NodeNo) -> Epoch
 
 // One block more, at the next place.
 fn block_added(s: State, b: Block, proposed: Epoch) -> Effect
-    requires { (s.count < capacity) × (s.own.0 < mostNodes) }
-    ensures { Does s result (withBlock s b proposed.0) }
+    requires { (s.count < capacity) × (s.own.0 < most_nodes) }
+    ensures { Does s result (with_block s b proposed.0) }
 {
     let k = s.count + 1;
     let clocks = s.clocks;
@@ -70,8 +70,8 @@ fn block_added(s: State, b: Block, proposed: Epoch) -> Effect
 
 // One voter more of the block held at a place.
 fn vote_added(s: State, held: Block, place: Place, who: NodeNo, voted: Epoch) -> Effect
-    requires { (held ≡ at (rows s) place.0) × (place.0 ≤ s.count) × (s.count ≤ capacity) × (s.own.0 < mostNodes) }
-    ensures { Does s result (withVote s place.0 who.0 voted.0) }
+    requires { (held ≡ at (rows s) place.0) × (place.0 ≤ s.count) × (s.count ≤ capacity) × (s.own.0 < most_nodes) }
+    ensures { Does s result (with_vote s place.0 who.0 voted.0) }
 {
     let b = with_voter(held, who);
     let clocks = s.clocks;
@@ -91,8 +91,8 @@ fn vote_added(s: State, held: Block, place: Place, who: NodeNo, voted: Epoch) ->
 
 // Another clock kept of a node; the genesis's row is written as it stands.
 fn clock_kept(s: State, who: NodeNo, clock: Epoch) -> Effect
-    requires { who.0 < mostNodes }
-    ensures { Does s result (withClock s who.0 clock.0) }
+    requires { who.0 < most_nodes }
+    ensures { Does s result (with_clock s who.0 clock.0) }
 {
     let root = s.blocks[0];
     Effect {
@@ -108,7 +108,7 @@ fn clock_kept(s: State, who: NodeNo, clock: Epoch) -> Effect
 
 // The direct effect of a record that is taken, with the block held at its place. Of the state it reads the numbers alone.
 pub fn effect_of(s: State, held: Block, f: Fields, place: Place) -> Effect
-    requires { (wellShaped s ≡ true) × ((r : List ℕ) × Granted s f place r) × (place.0 ≤ s.count → held ≡ at (rows s) place.0) }
+    requires { (well_shaped s ≡ true) × ((r : List ℕ) × Granted s f place r) × (place.0 ≤ s.count → held ≡ at (rows s) place.0) }
     ensures { (r : List ℕ) → Granted s f place r → Does s result (effect s r) }
 {
     let kind = f.kind;

@@ -1,8 +1,8 @@
 // Rows 7 to 14 for each kind of record, one early return for each test, in the order of the rows.
 
 ghost use Rattle.std.specs.Prelude.{ℕ, true, List, ◌≡◌};
-ghost use Rattle.pala.specs.Record.{proposalHeard, voteHeard, clockHeard, proposeNow, castNow, minuteUp};
-ghost use Rattle.pala.specs.Shape.{wellShaped};
+ghost use Rattle.pala.specs.Record.{proposal_heard, vote_heard, clock_heard, propose_now, cast_now, minute_up};
+ghost use Rattle.pala.specs.Shape.{well_shaped};
 ghost use Rattle.record.specs.Fields.{fields_of};
 ghost use Rattle.node.specs.Moves.{judged};
 
@@ -20,7 +20,7 @@ const TOP_EPOCH: u32 = 4294967295;
 
 // "1 proposal heard"
 pub fn judge_proposal(s: State, f: Fields) -> Move
-    requires { (wellShaped s ≡ true) × (f.kind ≡ proposalHeard) }
+    requires { (well_shaped s ≡ true) × (f.kind ≡ proposal_heard) }
     ensures { (r : List ℕ) → f ≡ fields_of r → result ≡ judged s r }
 {
     let e = f.epoch.0;
@@ -62,7 +62,7 @@ pub fn judge_proposal(s: State, f: Fields) -> Move
 
 // "2 vote heard"
 pub fn judge_vote(s: State, f: Fields) -> Move
-    requires { (wellShaped s ≡ true) × (f.kind ≡ voteHeard) }
+    requires { (well_shaped s ≡ true) × (f.kind ≡ vote_heard) }
     ensures { (r : List ℕ) → f ≡ fields_of r → result ≡ judged s r }
 {
     let name = f.name;
@@ -85,7 +85,7 @@ pub fn judge_vote(s: State, f: Fields) -> Move
 
 // "3 clock heard"
 pub fn judge_clock(s: State, f: Fields) -> Move
-    requires { (wellShaped s ≡ true) × (f.kind ≡ clockHeard) }
+    requires { (well_shaped s ≡ true) × (f.kind ≡ clock_heard) }
     ensures { (r : List ℕ) → f ≡ fields_of r → result ≡ judged s r }
 {
     let e = f.epoch.0;
@@ -105,7 +105,7 @@ pub fn judge_clock(s: State, f: Fields) -> Move
 
 // "4 propose now"
 pub fn judge_propose(s: State, f: Fields) -> Move
-    requires { (wellShaped s ≡ true) × (f.kind ≡ proposeNow) }
+    requires { (well_shaped s ≡ true) × (f.kind ≡ propose_now) }
     ensures { (r : List ℕ) → f ≡ fields_of r → result ≡ judged s r }
 {
     let e = s.local.0;
@@ -142,7 +142,7 @@ pub fn judge_propose(s: State, f: Fields) -> Move
 
 // "5 cast a vote now"
 pub fn judge_cast(s: State, f: Fields) -> Move
-    requires { (wellShaped s ≡ true) × (f.kind ≡ castNow) }
+    requires { (well_shaped s ≡ true) × (f.kind ≡ cast_now) }
     ensures { (r : List ℕ) → f ≡ fields_of r → result ≡ judged s r }
 {
     let block = ballot(s);
@@ -157,7 +157,7 @@ pub fn judge_cast(s: State, f: Fields) -> Move
 
 // "6 the minute is up"
 pub fn judge_minute(s: State, f: Fields) -> Move
-    requires { (wellShaped s ≡ true) × (f.kind ≡ minuteUp) }
+    requires { (well_shaped s ≡ true) × (f.kind ≡ minute_up) }
     ensures { (r : List ℕ) → f ≡ fields_of r → result ≡ judged s r }
 {
     let e = s.local.0;

@@ -13,8 +13,8 @@ mod settling;
 ghost use Rattle.std.specs.Prelude.{true, ℕ, List, ◌≡◌};
 ghost use Rattle.pala.specs.Answers.{taken};
 ghost use Rattle.pala.specs.Run.{lent};
-ghost use Rattle.pala.specs.Shape.{wellShaped};
-ghost use Rattle.pala.specs.Step.{room, start, step, stepShaped};
+ghost use Rattle.pala.specs.Shape.{well_shaped};
+ghost use Rattle.pala.specs.Step.{room, start, step, step_shaped};
 ghost use Rattle.node.specs.Moves.{decision};
 
 use answers::is_taken;
@@ -68,7 +68,7 @@ pub fn start(n: u32, own: u32) -> Reply
 
 // A record judged on a well-shaped state, for loops that lend 96 bytes to send into: a refused one rebuilds no state.
 pub fn decide_shaped(s: State, rec: &[u8]) -> Decision
-    requires { wellShaped s ≡ true }
+    requires { well_shaped s ≡ true }
     ensures { result ≡ decision s rec.now }
 {
     let f = fields_at(rec);
@@ -90,7 +90,7 @@ pub fn decide_shaped(s: State, rec: &[u8]) -> Decision
 
 // The state after a record that is taken: the direct effect, then the five steps.
 pub fn take_shaped(s: State, d: Decision) -> State
-    requires { (wellShaped s ≡ true) × (taken d.answer ≡ true) × ((r : List ℕ) × (d ≡ decision s r)) }
+    requires { (well_shaped s ≡ true) × (taken d.answer ≡ true) × ((r : List ℕ) × (d ≡ decision s r)) }
     ensures { (r : List ℕ) → d ≡ decision s r → result ≡ (step s r lent).state }
 {
     let f = d.fields;
@@ -100,8 +100,8 @@ pub fn take_shaped(s: State, d: Decision) -> State
 
 // A call on a well-shaped state.
 fn step_shaped(s: State, rec: &[u8], out: &mut [u8]) -> Reply
-    requires { wellShaped s ≡ true }
-    ensures { record { answer = result.answer; state = result.state; out = out.new } ≡ stepShaped room s rec.now out.old }
+    requires { well_shaped s ≡ true }
+    ensures { record { answer = result.answer; state = result.state; out = out.new } ≡ step_shaped room s rec.now out.old }
 {
     if s.torn {
         return Reply {

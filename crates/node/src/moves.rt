@@ -1,7 +1,7 @@
 // The two moves that a row can end in, and the clock kept from a node.
 
 ghost use Rattle.std.specs.Prelude.{◌≡◌};
-ghost use Rattle.pala.specs.Counts.{clockOf};
+ghost use Rattle.pala.specs.Counts.{clock_of};
 
 use crate::{Decision, Move};
 use record::Fields;
@@ -30,7 +30,7 @@ pub fn passed_over(f: Fields, answer: Answer) -> Decision
 
 // "the highest clock kept from each node"; none is kept from a number past the clocks.
 pub fn clock_from(clocks: [Epoch; 32], who: NodeNo) -> Epoch
-    ensures { result ≡ record { 0 = clockOf clocks who.0 } }
+    ensures { result ≡ record { 0 = clock_of clocks who.0 } }
 {
     let k = who.0;
     if MOST_NODES <= k {

@@ -3,7 +3,7 @@
 ghost use Rattle.std.specs.Prelude.{ℕ, max, true, List, ◌≡◌};
 ghost use Rattle.table.specs.Scan.{pick};
 ghost use Rattle.pala.specs.Effects.{effect};
-ghost use Rattle.pala.specs.Shape.{wellShaped};
+ghost use Rattle.pala.specs.Shape.{well_shaped};
 ghost use Rattle.pala.specs.Steps.{settled};
 ghost use Rattle.node.specs.Moves.{Granted};
 
@@ -46,7 +46,7 @@ fn place_by(test: bool, a: Place, b: Place) -> Place
 
 // The state after the direct effect of a record that is taken, and the five steps. Only here are the rows copied, and once.
 pub fn settle(s: State, f: Fields, place: Place) -> State
-    requires { (wellShaped s ≡ true) × ((r : List ℕ) × Granted s f place r) }
+    requires { (well_shaped s ≡ true) × ((r : List ℕ) × Granted s f place r) }
     ensures { (r : List ℕ) → Granted s f place r → result ≡ settled (effect s r) }
 {
     let mut next = s;

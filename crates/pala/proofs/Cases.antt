@@ -1,9 +1,9 @@
 -- The ten P cases and the session, as one claim about the rules themselves. Each side computes. Assumes nothing.
 use mathlib.Core.Path.{◌≡◌, refl}
-use Rattle.pala.specs.Cases.{Holds, sessionInput, sessionText, p_table, began, shown, musts}
+use Rattle.pala.specs.Cases.{Holds, session_input, session_text, p_table, began, shown, musts}
 use Rattle.pala.specs.Lines.{replay}
 
 -- `replay` prints the session's nine lines, and each P case shows what 01 says
-pub cases-hold : (replay sessionInput ≡ sessionText) × Holds 4 p_table
-unfolding replay sessionInput sessionText began shown musts p_table
+pub cases-hold : (replay session_input ≡ session_text) × Holds 4 p_table
+unfolding replay session_input session_text began shown musts p_table
 cases-hold = (refl, refl)

@@ -34,14 +34,14 @@ card-agrees votes n =
 abbrev listed : List ℕ
 listed = 1 ∷ 2 ∷ 3 ∷ 4 ∷ 5 ∷ 6 ∷ 7 ∷ 31 ∷ 32 ∷ []
 
-abbrev listedQuorums : List ℕ
-listedQuorums = 1 ∷ 2 ∷ 2 ∷ 3 ∷ 4 ∷ 4 ∷ 5 ∷ 21 ∷ 22 ∷ []
+abbrev listed_quorums : List ℕ
+listed_quorums = 1 ∷ 2 ∷ 2 ∷ 3 ∷ 4 ∷ 4 ∷ 5 ∷ 21 ∷ 22 ∷ []
 
-pub quorums : map (λ n. quorum n) listed ≡ listedQuorums
+pub quorums : map (λ n. quorum n) listed ≡ listed_quorums
 unfolding quorum
 quorums = refl
 
 -- the same table from the card: the lowest count, of n votes at most, that passes its test
-pub card-quorums : map (λ n. lowest (n + 1) (λ votes. card votes n)) listed ≡ listedQuorums
+pub card-quorums : map (λ n. lowest (n + 1) (λ votes. card votes n)) listed ≡ listed_quorums
 unfolding lowest
 card-quorums = refl

@@ -10,7 +10,7 @@ use lib.Dec.{eqb, ltb}
 use borrow.Author.Tests.{lt-ltb, le-ltb, ne_eqb}
 use Rattle.table.specs.Scan.{pick}
 use Rattle.table.proofs.Laws.{pick_yes, pick_no}
-use Rattle.pala.specs.Rules.{lower, fallIn, fall, every, among}
+use Rattle.pala.specs.Rules.{lower, fall_in, fall, every, among}
 
 -- ---- the next place down
 
@@ -42,54 +42,54 @@ lower-same up low p e = ap (λ (a : ℕ). pick (ltb a p) a 0) e
 
 -- ---- steps: more of them than the place counts change nothing
 
-fallIn-root : (up : ℕ → ℕ) (k : ℕ) → fallIn up k 0 ≡ 0 ∷ []
-unfolding fallIn
-fallIn-root up zero = refl
-fallIn-root up (suc k) = refl
+fall_in-root : (up : ℕ → ℕ) (k : ℕ) → fall_in up k 0 ≡ 0 ∷ []
+unfolding fall_in
+fall_in-root up zero = refl
+fall_in-root up (suc k) = refl
 
-fallIn-step : (up : ℕ → ℕ) (k p : ℕ) → 0 < p → fallIn up (suc k) p ≡ p ∷ fallIn up k (lower up p)
-unfolding fallIn
-fallIn-step up k p h =
-    ap (λ (b : Bool). elim b as (λ _. List ℕ) [ true ↦ p ∷ [] | false ↦ p ∷ fallIn up k (lower up p) ])
+fall_in-step : (up : ℕ → ℕ) (k p : ℕ) → 0 < p → fall_in up (suc k) p ≡ p ∷ fall_in up k (lower up p)
+unfolding fall_in
+fall_in-step up k p h =
+    ap (λ (b : Bool). elim b as (λ _. List ℕ) [ true ↦ p ∷ [] | false ↦ p ∷ fall_in up k (lower up p) ])
     (ne_eqb p 0 (λ e. omega arith))
 
-pub fallIn-more : (up : ℕ → ℕ) (k j p : ℕ) → p ≤ k → p ≤ j → fallIn up k p ≡ fallIn up j p
-fallIn-more up zero j p a b = let e : p ≡ 0 = omega arith in rw e (fallIn-root up zero ∙ sym (fallIn-root up j))
-fallIn-more up (suc k) zero p a b = let e : p ≡ 0 = omega arith in rw e (fallIn-root up (suc k) ∙ sym (fallIn-root up zero))
-fallIn-more up (suc k) (suc j) p a b =
+pub fall_in-more : (up : ℕ → ℕ) (k j p : ℕ) → p ≤ k → p ≤ j → fall_in up k p ≡ fall_in up j p
+fall_in-more up zero j p a b = let e : p ≡ 0 = omega arith in rw e (fall_in-root up zero ∙ sym (fall_in-root up j))
+fall_in-more up (suc k) zero p a b = let e : p ≡ 0 = omega arith in rw e (fall_in-root up (suc k) ∙ sym (fall_in-root up zero))
+fall_in-more up (suc k) (suc j) p a b =
     elim (dec_lt 0 p) [
       | yes h ↦
           let l = lower-below up p h in
-          fallIn-step up k p h
-          ∙ ap (λ (q : List ℕ). p ∷ q) (fallIn-more up k j (lower up p) (omega arith) (omega arith))
-          ∙ sym (fallIn-step up j p h)
-      | no h ↦ let e : p ≡ 0 = omega arith in rw e (fallIn-root up (suc k) ∙ sym (fallIn-root up (suc j)))
+          fall_in-step up k p h
+          ∙ ap (λ (q : List ℕ). p ∷ q) (fall_in-more up k j (lower up p) (omega arith) (omega arith))
+          ∙ sym (fall_in-step up j p h)
+      | no h ↦ let e : p ≡ 0 = omega arith in rw e (fall_in-root up (suc k) ∙ sym (fall_in-root up (suc j)))
     ]
 
 pub fall-zero : (up : ℕ → ℕ) → fall up 0 ≡ 0 ∷ []
 unfolding fall
-fall-zero up = fallIn-root up 0
+fall-zero up = fall_in-root up 0
 
 pub fall-up : (up : ℕ → ℕ) (p : ℕ) → 0 < p → fall up p ≡ p ∷ fall up (lower up p)
 unfolding fall
 fall-up up zero h = absurd (omega arith)
 fall-up up (suc p) h =
     let l = lower-below up (suc p) h in
-    fallIn-step up p (suc p) h
-    ∙ ap (λ (q : List ℕ). suc p ∷ q) (fallIn-more up p (lower up (suc p)) (lower up (suc p)) (omega arith) (le_refl (lower up (suc p))))
+    fall_in-step up p (suc p) h
+    ∙ ap (λ (q : List ℕ). suc p ∷ q) (fall_in-more up p (lower up (suc p)) (lower up (suc p)) (omega arith) (le_refl (lower up (suc p))))
 
 -- what holds of the genesis, and of a place where it holds of the next one down, holds of every place
-climbIn : (up : ℕ → ℕ) (P : ℕ → Type 0) → P 0 → ((p : ℕ) → 0 < p → P (lower up p) → P p) → (k p : ℕ) → p ≤ k → P p
-climbIn up P base step zero p h = subst P (omega arith) base
-climbIn up P base step (suc k) p h =
+climb_in : (up : ℕ → ℕ) (P : ℕ → Type 0) → P 0 → ((p : ℕ) → 0 < p → P (lower up p) → P p) → (k p : ℕ) → p ≤ k → P p
+climb_in up P base step zero p h = subst P (omega arith) base
+climb_in up P base step (suc k) p h =
     elim (dec_le p k) [
-      | yes l ↦ climbIn up P base step k p l
+      | yes l ↦ climb_in up P base step k p l
       | no l ↦
-          step p (omega arith) (climbIn up P base step k (lower up p) (omega (arith, lower-below up p (omega arith))))
+          step p (omega arith) (climb_in up P base step k (lower up p) (omega (arith, lower-below up p (omega arith))))
     ]
 
 pub climb : (up : ℕ → ℕ) (P : ℕ → Type 0) → P 0 → ((p : ℕ) → 0 < p → P (lower up p) → P p) → (p : ℕ) → P p
-climb up P base step p = climbIn up P base step p p (le_refl p)
+climb up P base step p = climb_in up P base step p p (le_refl p)
 
 -- ---- what is asked along a fall
 

@@ -9,21 +9,21 @@ use lib.Seq.{drop-append-le}
 use Rattle.table.specs.declared.Block.{Block}
 use Rattle.table.specs.declared.State.{State}
 use Rattle.table.specs.Rows.{rows, at}
-use Rattle.pala.specs.Lists.{finalNames}
+use Rattle.pala.specs.Lists.{final_names}
 use Rattle.pala.specs.Rules.{parent_of, line}
 use Rattle.pala.proofs.Places.{parent-below}
 use Rattle.pala.proofs.Demand.Ancestors.{climb, line-zero, line-up}
 
 -- the names along a line, from the first after the genesis
-unfoldable pub namesTo : List Block → ℕ → List (List ℕ)
-namesTo t p = map (λ q. (at t q).name) (drop 1 (reverse (line t p)))
+unfoldable pub names_to : List Block → ℕ → List (List ℕ)
+names_to t p = map (λ q. (at t q).name) (drop 1 (reverse (line t p)))
 
-pub finals-are : (s : State) → finalNames s ≡ namesTo (rows s) s.kept.0
-unfolding finalNames namesTo
+pub finals-are : (s : State) → final_names s ≡ names_to (rows s) s.kept.0
+unfolding final_names names_to
 finals-are s = refl
 
-pub names-zero : (t : List Block) → namesTo t 0 ≡ []
-unfolding namesTo
+pub names-zero : (t : List Block) → names_to t 0 ≡ []
+unfolding names_to
 names-zero t = ap (λ l. map (λ q. (at t q).name) (drop 1 (reverse l))) (line-zero t)
 
 line-some : (t : List Block) (p : ℕ) → 0 < length (line t p)
@@ -34,8 +34,8 @@ line-some t p =
     ]
 
 -- one name more than up to the parent
-pub names-up : (t : List Block) (p : ℕ) → 0 < p → namesTo t p ≡ namesTo t (parent_of t p) ++ ((at t p).name ∷ [])
-unfolding namesTo
+pub names-up : (t : List Block) (p : ℕ) → 0 < p → names_to t p ≡ names_to t (parent_of t p) ++ ((at t p).name ∷ [])
+unfolding names_to
 names-up t p pos =
     ap (λ l. map name (drop 1 (reverse l))) (line-up t p pos)
     ∙ ap (λ l. map name (drop 1 l)) (reverse-cons p rest)
@@ -48,11 +48,11 @@ names-up t p pos =
     rest : List ℕ
     rest = line t (parent_of t p)
 
-pub names-up-length : (t : List Block) (p : ℕ) → 0 < p → length (namesTo t p) ≡ length (namesTo t (parent_of t p)) + 1
-names-up-length t p h = ap length (names-up t p h) ∙ length-append (namesTo t (parent_of t p)) ((at t p).name ∷ [])
+pub names-up-length : (t : List Block) (p : ℕ) → 0 < p → length (names_to t p) ≡ length (names_to t (parent_of t p)) + 1
+names-up-length t p h = ap length (names-up t p h) ∙ length-append (names_to t (parent_of t p)) ((at t p).name ∷ [])
 
 -- there are no more of them than the place counts
-pub names-le : (t : List Block) (p : ℕ) → length (namesTo t p) ≤ p
+pub names-le : (t : List Block) (p : ℕ) → length (names_to t p) ≤ p
 names-le t =
-    climb t (λ (p : ℕ). length (namesTo t p) ≤ p) (omega (arith, ap length (names-zero t)))
+    climb t (λ (p : ℕ). length (names_to t p) ≤ p) (omega (arith, ap length (names-zero t)))
     (λ p h ih. omega (arith, names-up-length t p h, parent-below t p h))

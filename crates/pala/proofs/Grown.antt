@@ -10,10 +10,10 @@ use lib.ListN.{length, get_or, take, set, length-append, length-set, get_or-appe
 use lib.Seq.{get_or-append_seam, get_or-set_same, get_or-set_other, set_split, take-set-lt, take-suc-set, length-take-le}
 use Rattle.table.specs.declared.Block.{Block}
 use Rattle.table.specs.declared.State.{State}
-use Rattle.table.specs.Rows.{rows, size, at, hasVoter, withVoter}
+use Rattle.table.specs.Rows.{rows, size, at, has_voter, with_voter}
 use Rattle.table.proofs.Laws.{at_in}
-use Rattle.pala.specs.Effects.{laid, withBlock, withVote, withClock}
-use Rattle.pala.specs.Rules.{epochAt, parent_of}
+use Rattle.pala.specs.Effects.{laid, with_block, with_vote, with_clock}
+use Rattle.pala.specs.Rules.{epoch_at, parent_of}
 use Rattle.pala.specs.Steps.{settled}
 use Rattle.pala.proofs.Falls.{lower-same}
 
@@ -40,21 +40,21 @@ unfolding rows
 size-held s h = length-take-le (suc s.count) s.blocks h
 
 -- a block more is a row more
-pub rows-block : (s : State) (b : Block) (proposed : ℕ) → suc s.count < length s.blocks → rows (withBlock s b proposed) ≡ rows s ++ (b ∷ [])
-unfolding rows withBlock
+pub rows-block : (s : State) (b : Block) (proposed : ℕ) → suc s.count < length s.blocks → rows (with_block s b proposed) ≡ rows s ++ (b ∷ [])
+unfolding rows with_block
 rows-block s b proposed h =
     ap (take (suc (suc s.count))) (laid-set s.blocks (suc s.count) b h) ∙ take-suc-set s.blocks (suc s.count) b h
 
 -- a vote more is a voter more in its row
-pub rows-vote : (s : State) (p i voted : ℕ) → p ≤ s.count → s.count < length s.blocks → rows (withVote s p i voted) ≡ set (rows s) p (withVoter (at (rows s) p) i)
-unfolding rows withVote
+pub rows-vote : (s : State) (p i voted : ℕ) → p ≤ s.count → s.count < length s.blocks → rows (with_vote s p i voted) ≡ set (rows s) p (with_voter (at (rows s) p) i)
+unfolding rows with_vote
 rows-vote s p i voted h k =
-    ap (take (suc s.count)) (laid-set s.blocks p (withVoter (at (rows s) p) i) (omega arith))
-    ∙ take-set-lt (suc s.count) s.blocks p (withVoter (at (rows s) p) i) (omega arith)
+    ap (take (suc s.count)) (laid-set s.blocks p (with_voter (at (rows s) p) i) (omega arith))
+    ∙ take-set-lt (suc s.count) s.blocks p (with_voter (at (rows s) p) i) (omega arith)
 
 -- a clock, and the five steps, leave the table alone
-pub rows-clock : (s : State) (i c : ℕ) → rows (withClock s i c) ≡ rows s
-unfolding rows withClock
+pub rows-clock : (s : State) (i c : ℕ) → rows (with_clock s i c) ≡ rows s
+unfolding rows with_clock
 rows-clock s i c = refl
 
 pub rows_settled : (s : State) → rows (settled s) ≡ rows s
@@ -62,13 +62,13 @@ unfolding rows settled
 rows_settled s = refl
 
 -- a block and a vote leave as many rows as there are
-pub length-block : (s : State) (b : Block) (proposed : ℕ) → suc s.count < length s.blocks → length (withBlock s b proposed).blocks ≡ length s.blocks
-unfolding withBlock
+pub length-block : (s : State) (b : Block) (proposed : ℕ) → suc s.count < length s.blocks → length (with_block s b proposed).blocks ≡ length s.blocks
+unfolding with_block
 length-block s b proposed h = length-laid s.blocks (suc s.count) b h
 
-pub length-vote : (s : State) (p i voted : ℕ) → p < length s.blocks → length (withVote s p i voted).blocks ≡ length s.blocks
-unfolding withVote
-length-vote s p i voted h = length-laid s.blocks p (withVoter (at (rows s) p) i) h
+pub length-vote : (s : State) (p i voted : ℕ) → p < length s.blocks → length (with_vote s p i voted).blocks ≡ length s.blocks
+unfolding with_vote
+length-vote s p i voted h = length-laid s.blocks p (with_voter (at (rows s) p) i) h
 
 -- ---- one row more
 
@@ -99,10 +99,10 @@ pub record Grown (t u : List Block) : Type 0 where
   pub name : (p : ℕ) → p < size t → (at u p).name ≡ (at t p).name
   pub epoch : (p : ℕ) → p < size t → (at u p).epoch.0 ≡ (at t p).epoch.0
   pub parent : (p : ℕ) → p < size t → (at u p).parent.0 ≡ (at t p).parent.0
-  pub voters : (p i : ℕ) → p < size t → hasVoter (at t p) i ≡ true → hasVoter (at u p) i ≡ true
+  pub voters : (p i : ℕ) → p < size t → has_voter (at t p) i ≡ true → has_voter (at u p) i ≡ true
 
-pub grown-epoch : {t u : List Block} → Grown t u → (p : ℕ) → p < size t → epochAt u p ≡ epochAt t p
-unfolding epochAt
+pub grown-epoch : {t u : List Block} → Grown t u → (p : ℕ) → p < size t → epoch_at u p ≡ epoch_at t p
+unfolding epoch_at
 grown-epoch g p h = g.epoch p h
 
 pub grown-parent : {t u : List Block} → Grown t u → (p : ℕ) → p < size t → parent_of u p ≡ parent_of t p
@@ -139,12 +139,12 @@ grown-append t b =
       name = λ p h. ap (λ (x : Block). x.name) (at-append t b p h);
       epoch = λ p h. ap (λ (x : Block). x.epoch.0) (at-append t b p h);
       parent = λ p h. ap (λ (x : Block). x.parent.0) (at-append t b p h);
-      voters = λ p i h w. ap (λ (x : Block). hasVoter x i) (at-append t b p h) ∙ w;
+      voters = λ p i h w. ap (λ (x : Block). has_voter x i) (at-append t b p h) ∙ w;
     }
 
 -- one voter more: it is there, those that were there still are, and of the others nothing changed
-pub voter-in : (b : Block) (i : ℕ) → i < length b.voters → hasVoter (withVoter b i) i ≡ true
-unfolding withVoter hasVoter
+pub voter-in : (b : Block) (i : ℕ) → i < length b.voters → has_voter (with_voter b i) i ≡ true
+unfolding with_voter has_voter
 voter-in b i h = get_or-set_same b.voters i true false h
 
 pub voter-set : (l : List Bool) (i j : ℕ) → get_or l j false ≡ true → get_or (set l i true) j false ≡ true
@@ -154,36 +154,36 @@ voter-set (x ∷ l) zero (suc j) w = w
 voter-set (x ∷ l) (suc i) zero w = w
 voter-set (x ∷ l) (suc i) (suc j) w = voter-set l i j w
 
-pub voter-was : (b : Block) (i j : ℕ) → j ≢ i → hasVoter (withVoter b i) j ≡ hasVoter b j
-unfolding withVoter hasVoter
+pub voter-was : (b : Block) (i j : ℕ) → j ≢ i → has_voter (with_voter b i) j ≡ has_voter b j
+unfolding with_voter has_voter
 voter-was b i j d = get_or-set_other b.voters i j true false d
 
 -- a row after a vote: the voted one with a voter more, or the row as it was
 pub at-vote : (P : Block → Type 0) (t : List Block) (p i q : ℕ) → p < size t
-    → (q ≡ p → P (withVoter (at t p) i)) → (q ≢ p → P (at t q)) → q < size t → P (at (set t p (withVoter (at t p) i)) q)
+    → (q ≡ p → P (with_voter (at t p) i)) → (q ≢ p → P (at t q)) → q < size t → P (at (set t p (with_voter (at t p) i)) q)
 at-vote P t p i q l same other h =
     elim (ℕ_discrete q p) [
       | yes d ↦
-          subst (λ (x : ℕ). P (at (set t p (withVoter (at t p) i)) x)) (sym d) (subst P (sym (at_set_same t p (withVoter (at t p) i) l)) (same d))
-      | no d ↦ subst P (sym (at_set_other t p q (withVoter (at t p) i) h d)) (other d)
+          subst (λ (x : ℕ). P (at (set t p (with_voter (at t p) i)) x)) (sym d) (subst P (sym (at_set_same t p (with_voter (at t p) i) l)) (same d))
+      | no d ↦ subst P (sym (at_set_other t p q (with_voter (at t p) i) h d)) (other d)
     ]
 
 -- a part of the rows that a voter more leaves alone
-pub part-vote : {A : Type 0} (f : Block → A) (t : List Block) (p i : ℕ) → p < size t → f (withVoter (at t p) i) ≡ f (at t p)
-    → (q : ℕ) → q < size t → f (at (set t p (withVoter (at t p) i)) q) ≡ f (at t q)
+pub part-vote : {A : Type 0} (f : Block → A) (t : List Block) (p i : ℕ) → p < size t → f (with_voter (at t p) i) ≡ f (at t p)
+    → (q : ℕ) → q < size t → f (at (set t p (with_voter (at t p) i)) q) ≡ f (at t q)
 part-vote f t p i l e q h =
     at-vote (λ (x : Block). f x ≡ f (at t q)) t p i q l (λ d. e ∙ ap (λ (a : ℕ). f (at t a)) (sym d)) (λ d. refl) h
 
-pub grown-vote : (t : List Block) (p i : ℕ) → p < size t → Grown t (set t p (withVoter (at t p) i))
-unfolding withVoter hasVoter
+pub grown-vote : (t : List Block) (p i : ℕ) → p < size t → Grown t (set t p (with_voter (at t p) i))
+unfolding with_voter has_voter
 grown-vote t p i l =
     record {
-      longer = omega (arith, length-set t p (withVoter (at t p) i));
+      longer = omega (arith, length-set t p (with_voter (at t p) i));
       name = part-vote (λ (x : Block). x.name) t p i l refl;
       epoch = part-vote (λ (x : Block). x.epoch.0) t p i l refl;
       parent = part-vote (λ (x : Block). x.parent.0) t p i l refl;
       voters =
           λ q j h w.
-          at-vote (λ (x : Block). hasVoter x j ≡ true) t p i q l
-          (λ d. voter-set (at t p).voters i j (ap (λ (a : ℕ). hasVoter (at t a) j) (sym d) ∙ w)) (λ d. w) h;
+          at-vote (λ (x : Block). has_voter x j ≡ true) t p i q l
+          (λ d. voter-set (at t p).voters i j (ap (λ (a : ℕ). has_voter (at t a) j) (sym d) ∙ w)) (λ d. w) h;
     }

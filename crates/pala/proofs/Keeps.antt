@@ -13,14 +13,14 @@ use Rattle.table.specs.declared.Block.{Block}
 use Rattle.table.specs.declared.Epoch.{Epoch}
 use Rattle.table.specs.declared.State.{State}
 use Rattle.table.specs.Bytes.{same, zeros}
-use Rattle.table.specs.Rows.{capacity, mostNodes, blank, rows, size, at, hasVoter, withVoter}
+use Rattle.table.specs.Rows.{capacity, most_nodes, blank, rows, size, at, has_voter, with_voter}
 use Rattle.table.proofs.Laws.{pick-case, same_false}
-use Rattle.pala.specs.Counts.{clockOf}
-use Rattle.pala.specs.Rules.{epochAt, candidate}
-use Rattle.pala.specs.Shape.{votersOk, blockOk, isBlank, wellShaped}
-use Rattle.pala.specs.Effects.{laid, withBlock, withVote, withClock, effect}
-use Rattle.pala.specs.Steps.{newLocal, newKept, forward, settled}
-use Rattle.pala.specs.Step.{stepShaped, room}
+use Rattle.pala.specs.Counts.{clock_of}
+use Rattle.pala.specs.Rules.{epoch_at, candidate}
+use Rattle.pala.specs.Shape.{voters_ok, block_ok, is_blank, well_shaped}
+use Rattle.pala.specs.Effects.{laid, with_block, with_vote, with_clock, effect}
+use Rattle.pala.specs.Steps.{new_local, new_kept, forward, settled}
+use Rattle.pala.specs.Step.{step_shaped, room}
 use Rattle.pala.proofs.Grown.{Grown, grown-epoch, grown-same, grown-append, grown-vote, at-append, at_last, at-vote, voter-was, laid-other, size-held, rows-block, rows-vote, rows-clock, length-block, length-vote}
 use Rattle.pala.proofs.Shapes.{block-name, block_apart, block-parent, block-parent-epoch, block-epoch, block-voter, block-voters, block_of, voters-of, shaped-nodes, shaped-count, shaped-kept, shaped-local, shaped-clock, shaped-block, shaped-blank, shaped_of}
 use Rattle.pala.proofs.Places.{candidate-in, votable-parts}
@@ -31,23 +31,23 @@ use Rattle.pala.proofs.Moves.{NewBlock, Did, added, counted, cast, clocked, Step
 
 -- places 1 to the number of blocks hold blocks in order
 abbrev Blocks : ℕ → ℕ → List Block → Type 0
-Blocks n held t = (p : ℕ) → 0 < p → p ≤ held → blockOk n t p ≡ true
+Blocks n held t = (p : ℕ) → 0 < p → p ≤ held → block_ok n t p ≡ true
 
 -- in a table that grows, while the block's voters stay below n
 grown-order :
-    (n : ℕ) (t u : List Block) (p : ℕ) → Grown t u → p < size t → blockOk n t p ≡ true → votersOk n (at u p) ≡ true → blockOk n u p ≡ true
+    (n : ℕ) (t u : List Block) (p : ℕ) → Grown t u → p < size t → block_ok n t p ≡ true → voters_ok n (at u p) ≡ true → block_ok n u p ≡ true
 grown-order n t u p g h o v =
     let low : (at t p).parent.0 < p = block-parent n t p o in
     let parent : (at u p).parent.0 ≡ (at t p).parent.0 = g.parent p h in
-    let epoch : epochAt u p ≡ epochAt t p = grown-epoch g p h in
-    let parent-epoch : epochAt u (at u p).parent.0 ≡ epochAt t (at t p).parent.0 = ap (epochAt u) parent ∙ grown-epoch g (at t p).parent.0 (omega arith) in
+    let epoch : epoch_at u p ≡ epoch_at t p = grown-epoch g p h in
+    let parent-epoch : epoch_at u (at u p).parent.0 ≡ epoch_at t (at t p).parent.0 = ap (epoch_at u) parent ∙ grown-epoch g (at t p).parent.0 (omega arith) in
     block_of n u p (ap zeros (g.name p h) ∙ block-name n t p o)
     (λ q l. ap₂ same (g.name q (omega arith)) (g.name p h) ∙ block_apart n t p o q l) (omega arith)
     (omega (arith, block-parent-epoch n t p o)) (omega (arith, block-epoch n t p o)) v
 
 -- a new block, at the next place
-new-order : (n : ℕ) (t : List Block) (b : Block) → NewBlock t b → blockOk n (t ++ (b ∷ [])) (size t) ≡ true
-unfolding epochAt
+new-order : (n : ℕ) (t : List Block) (b : Block) → NewBlock t b → block_ok n (t ++ (b ∷ [])) (size t) ≡ true
+unfolding epoch_at
 new-order n t b w =
     let u = t ++ (b ∷ []) in
     let it : at u (size t) ≡ b = at_last t b in
@@ -58,7 +58,7 @@ new-order n t b w =
     block_of n u (size t) (ap (λ (x : Block). zeros x.name) it ∙ w.named)
     (λ q l. ap₂ (λ (x y : Block). same x.name y.name) (at-append t b q l) it ∙ same_false (at t q).name b.name (w.alone q l))
     (omega (arith, w.lower)) (omega (arith, w.earlier)) (omega (arith, w.range))
-    (voters-of n (at u (size t)) (λ i l m. ap (λ (x : Block). hasVoter x i) it ∙ w.silent i))
+    (voters-of n (at u (size t)) (λ i l m. ap (λ (x : Block). has_voter x i) it ∙ w.silent i))
 
 append-order : (n held : ℕ) (t : List Block) (b : Block) → size t ≡ suc held → NewBlock t b → Blocks n held t → Blocks n (suc held) (t ++ (b ∷ []))
 append-order n held t b e w old p pos l =
@@ -66,24 +66,24 @@ append-order n held t b e w old p pos l =
       | yes m ↦
           let inside : p < size t = omega arith in
           grown-order n t (t ++ (b ∷ [])) p (grown-append t b) inside (old p pos m)
-          (ap (votersOk n) (at-append t b p inside) ∙ block-voters n t p (old p pos m))
+          (ap (voters_ok n) (at-append t b p inside) ∙ block-voters n t p (old p pos m))
       | no m ↦
           let last : size t ≡ p = omega arith in
-          subst (λ (x : ℕ). blockOk n (t ++ (b ∷ [])) x ≡ true) last (new-order n t b w)
+          subst (λ (x : ℕ). block_ok n (t ++ (b ∷ [])) x ≡ true) last (new-order n t b w)
     ]
 
-vote-order : (n held : ℕ) (t : List Block) (p i : ℕ) → size t ≡ suc held → 0 < p → p ≤ held → i < n → Blocks n held t → Blocks n held (set t p (withVoter (at t p) i))
+vote-order : (n held : ℕ) (t : List Block) (p i : ℕ) → size t ≡ suc held → 0 < p → p ≤ held → i < n → Blocks n held t → Blocks n held (set t p (with_voter (at t p) i))
 vote-order n held t p i e above low below old q pos l =
     let inside : p < size t = omega arith in
-    let voters : votersOk n (withVoter (at t p) i) ≡ true =
-    voters-of n (withVoter (at t p) i) (λ j k c. voter-was (at t p) i j (omega arith) ∙ block-voter n t p (old p above low) j k c) in
-    grown-order n t (set t p (withVoter (at t p) i)) q (grown-vote t p i inside) (omega arith) (old q pos l)
-    (at-vote (λ (x : Block). votersOk n x ≡ true) t p i q inside (λ d. voters) (λ d. block-voters n t q (old q pos l)) (omega arith))
+    let voters : voters_ok n (with_voter (at t p) i) ≡ true =
+    voters-of n (with_voter (at t p) i) (λ j k c. voter-was (at t p) i j (omega arith) ∙ block-voter n t p (old p above low) j k c) in
+    grown-order n t (set t p (with_voter (at t p) i)) q (grown-vote t p i inside) (omega arith) (old q pos l)
+    (at-vote (λ (x : Block). voters_ok n x ≡ true) t p i q inside (λ d. voters) (λ d. block-voters n t q (old q pos l)) (omega arith))
 
 -- ---- unused places stay blank
 
 abbrev Blanks : ℕ → List Block → Type 0
-Blanks held blocks = (p : ℕ) → (p ≡ 0) ⊎ (held < p) → p ≤ capacity → isBlank (get_or blocks p blank) ≡ true
+Blanks held blocks = (p : ℕ) → (p ≡ 0) ⊎ (held < p) → p ≤ capacity → is_blank (get_or blocks p blank) ≡ true
 
 laid-blanks :
     (held after : ℕ) (l : List Block) (p : ℕ) (b : Block) → p < length l → 0 < p → p ≤ after → held ≤ after →
@@ -91,21 +91,21 @@ laid-blanks :
 laid-blanks held after l p b inside pos low more old q e =
     let apart : q ≢ p = ⊎_elim (λ (z : q ≡ 0). omega arith) (λ (z : after < q). omega arith) e in
     let free : (q ≡ 0) ⊎ (held < q) = ⊎_elim (λ (z : q ≡ 0). inl z) (λ (z : after < q). inr (omega arith)) e in
-    λ m. ap isBlank (laid-other l p q b blank inside apart) ∙ old q free m
+    λ m. ap is_blank (laid-other l p q b blank inside apart) ∙ old q free m
 
 -- ---- clocks
 
 abbrev Clocks : ℕ → List Epoch → Type 0
-Clocks n clocks = (j : ℕ) → n ≤ j → j < mostNodes → clockOf clocks j ≡ 0
+Clocks n clocks = (j : ℕ) → n ≤ j → j < most_nodes → clock_of clocks j ≡ 0
 
 clock-keeps : (n : ℕ) (clocks : List Epoch) (i : ℕ) (c : Epoch) → i < n → Clocks n clocks → Clocks n (set clocks i c)
-unfolding clockOf
+unfolding clock_of
 clock-keeps n clocks i c below old j l m =
     ap (λ (x : Epoch). x.0) (get_or-set_other clocks i j c (record { 0 = 0 }) (omega arith)) ∙ old j l m
 
 -- ---- the state after each effect
 
-module _ (s : State) (places : length s.blocks ≡ suc capacity) (h : wellShaped s ≡ true) where
+module _ (s : State) (places : length s.blocks ≡ suc capacity) (h : well_shaped s ≡ true) where
   inside : s.count < length s.blocks
   inside = omega (arith, shaped-count s h)
 
@@ -117,38 +117,38 @@ module _ (s : State) (places : length s.blocks ≡ suc capacity) (h : wellShaped
   low l = omega (arith, size-shaped)
 
   -- .. and then one row more, or one voter more in its row
-  pub rows-added : (b : Block) (proposed : ℕ) → s.count < capacity → rows (withBlock s b proposed) ≡ rows s ++ (b ∷ [])
+  pub rows-added : (b : Block) (proposed : ℕ) → s.count < capacity → rows (with_block s b proposed) ≡ rows s ++ (b ∷ [])
   rows-added b proposed l = rows-block s b proposed (omega arith)
 
-  pub rows-voted : (p i voted : ℕ) → p < size (rows s) → rows (withVote s p i voted) ≡ set (rows s) p (withVoter (at (rows s) p) i)
+  pub rows-voted : (p i voted : ℕ) → p < size (rows s) → rows (with_vote s p i voted) ≡ set (rows s) p (with_voter (at (rows s) p) i)
   rows-voted p i voted l = rows-vote s p i voted (low l) inside
 
-  shaped-block-more : (b : Block) (proposed : ℕ) → NewBlock (rows s) b → s.count < capacity → wellShaped (withBlock s b proposed) ≡ true
-  unfolding withBlock
+  shaped-block-more : (b : Block) (proposed : ℕ) → NewBlock (rows s) b → s.count < capacity → well_shaped (with_block s b proposed) ≡ true
+  unfolding with_block
   shaped-block-more b proposed w l =
       let next : suc s.count < length s.blocks = omega arith in
-      shaped_of (withBlock s b proposed) (shaped-nodes s h) l (omega (arith, shaped-kept s h)) (shaped-local s h) (shaped-clock s h)
+      shaped_of (with_block s b proposed) (shaped-nodes s h) l (omega (arith, shaped-kept s h)) (shaped-local s h) (shaped-clock s h)
       (subst (Blocks s.n (suc s.count)) (sym (rows-added b proposed l))
       (append-order s.n s.count (rows s) b size-shaped w (shaped-block s h)))
       (laid-blanks s.count (suc s.count) s.blocks (suc s.count) b next (omega arith) (omega arith) (omega arith) (shaped-blank s h))
 
-  shaped-vote-more : (p i voted : ℕ) → 0 < p → p < size (rows s) → i < s.n → wellShaped (withVote s p i voted) ≡ true
-  unfolding withVote
+  shaped-vote-more : (p i voted : ℕ) → 0 < p → p < size (rows s) → i < s.n → well_shaped (with_vote s p i voted) ≡ true
+  unfolding with_vote
   shaped-vote-more p i voted pos l below =
-      shaped_of (withVote s p i voted) (shaped-nodes s h) (shaped-count s h) (shaped-kept s h) (shaped-local s h) (shaped-clock s h)
+      shaped_of (with_vote s p i voted) (shaped-nodes s h) (shaped-count s h) (shaped-kept s h) (shaped-local s h) (shaped-clock s h)
       (subst (Blocks s.n s.count) (sym (rows-voted p i voted l))
       (vote-order s.n s.count (rows s) p i size-shaped pos (low l) below (shaped-block s h)))
-      (laid-blanks s.count s.count s.blocks p (withVoter (at (rows s) p) i) (omega (arith, low l, inside)) pos (low l) (omega arith) (shaped-blank s h))
+      (laid-blanks s.count s.count s.blocks p (with_voter (at (rows s) p) i) (omega (arith, low l, inside)) pos (low l) (omega arith) (shaped-blank s h))
 
-  shaped-clock-more : (i c : ℕ) → i < s.n → wellShaped (withClock s i c) ≡ true
-  unfolding withClock rows
+  shaped-clock-more : (i c : ℕ) → i < s.n → well_shaped (with_clock s i c) ≡ true
+  unfolding with_clock rows
   shaped-clock-more i c below =
-      shaped_of (withClock s i c) (shaped-nodes s h) (shaped-count s h) (shaped-kept s h) (shaped-local s h)
+      shaped_of (with_clock s i c) (shaped-nodes s h) (shaped-count s h) (shaped-kept s h) (shaped-local s h)
       (clock-keeps s.n s.clocks i (record { 0 = c }) below (shaped-clock s h)) (shaped-block s h) (shaped-blank s h)
 
   -- "Then, always in this order": the local epoch doesn't fall, and what is kept is a block held
-  shaped_settled : wellShaped (settled s) ≡ true
-  unfolding settled rows newLocal newKept
+  shaped_settled : well_shaped (settled s) ≡ true
+  unfolding settled rows new_local new_kept
   shaped_settled =
       shaped_of (settled s) (shaped-nodes s h) (shaped-count s h)
       (pick-case (λ (x : ℕ). x ≤ s.count) (forward s) (candidate s.n (rows s)) s.kept.0
@@ -162,15 +162,15 @@ pub not_full : (held : ℕ) → room held ≡ true → held < capacity
 unfolding room
 not_full held l = ltb-true held capacity l
 
-module _ (s : State) (places : length s.blocks ≡ suc capacity) (h : wellShaped s ≡ true) where
+module _ (s : State) (places : length s.blocks ≡ suc capacity) (h : well_shaped s ≡ true) where
   below-own : s.own.0 < s.n
   below-own = (shaped-nodes s h).2
 
-  pub step-did : (r out : List ℕ) → Stepped room s r out (stepShaped room s r out)
+  pub step-did : (r out : List ℕ) → Stepped room s r out (step_shaped room s r out)
   step-did r out = stepped room s r out (omega (arith, size-shaped s places h)) below-own
 
   did-places : {r : List ℕ} {u : State} → Did room s r u → length u.blocks ≡ suc capacity
-  unfolding withClock
+  unfolding with_clock
   did-places (added b proposed kind w l e) =
       ap (λ (x : State). length x.blocks) e ∙ length-block s b proposed (omega (arith, not_full s.count l)) ∙ places
   did-places (counted kind pos l below other e) =
@@ -179,11 +179,11 @@ module _ (s : State) (places : length s.blocks ≡ suc capacity) (h : wellShaped
       ap (λ (x : State). length x.blocks) e ∙ length-vote s _ _ _ (omega (arith, low s places h l, inside s places h)) ∙ places
   did-places (clocked i c k2 k5 below e) = ap (λ (x : State). length x.blocks) e ∙ places
 
-  did-shaped : {r : List ℕ} {u : State} → Did room s r u → wellShaped u ≡ true
-  did-shaped (added b proposed kind w l e) = ap wellShaped e ∙ shaped-block-more s places h b proposed w (not_full s.count l)
-  did-shaped (counted kind pos l below other e) = ap wellShaped e ∙ shaped-vote-more s places h _ _ _ pos l below
-  did-shaped (cast kind l v e) = ap wellShaped e ∙ shaped-vote-more s places h _ _ _ (votable-parts _ _ _ _ _ _ v).above l below-own
-  did-shaped (clocked i c k2 k5 below e) = ap wellShaped e ∙ shaped-clock-more s places h i c below
+  did-shaped : {r : List ℕ} {u : State} → Did room s r u → well_shaped u ≡ true
+  did-shaped (added b proposed kind w l e) = ap well_shaped e ∙ shaped-block-more s places h b proposed w (not_full s.count l)
+  did-shaped (counted kind pos l below other e) = ap well_shaped e ∙ shaped-vote-more s places h _ _ _ pos l below
+  did-shaped (cast kind l v e) = ap well_shaped e ∙ shaped-vote-more s places h _ _ _ (votable-parts _ _ _ _ _ _ v).above l below-own
+  did-shaped (clocked i c k2 k5 below e) = ap well_shaped e ∙ shaped-clock-more s places h i c below
 
   -- the table only grows
   pub did_grows : {r : List ℕ} {u : State} → Did room s r u → Grown (rows s) (rows u)
@@ -200,32 +200,32 @@ module _ (s : State) (places : length s.blocks ≡ suc capacity) (h : wellShaped
   did-sized z (clocked i c k2 k5 below e) = subst Sized (sym e) (sized-clock s z i c)
 
 -- of the lengths only that of the rows is needed
-pub step-shaped : (s : State) (r out : List ℕ) → length s.blocks ≡ suc capacity → wellShaped s ≡ true → wellShaped (stepShaped room s r out).state ≡ true
+pub step-shaped : (s : State) (r out : List ℕ) → length s.blocks ≡ suc capacity → well_shaped s ≡ true → well_shaped (step_shaped room s r out).state ≡ true
 step-shaped s r out places h = go (step-did s places h r out)
   where
-    go : Stepped room s r out (stepShaped room s r out) → wellShaped (stepShaped room s r out).state ≡ true
-    go (refused a e) = ap wellShaped e ∙ h
-    go (took a p d e) = ap wellShaped e ∙ shaped_settled (effect s r) (did-places s places h d) (did-shaped s places h d)
+    go : Stepped room s r out (step_shaped room s r out) → well_shaped (step_shaped room s r out).state ≡ true
+    go (refused a e) = ap well_shaped e ∙ h
+    go (took a p d e) = ap well_shaped e ∙ shaped_settled (effect s r) (did-places s places h d) (did-shaped s places h d)
 
-pub step-places : (s : State) (r out : List ℕ) → length s.blocks ≡ suc capacity → wellShaped s ≡ true → length (stepShaped room s r out).state.blocks ≡ suc capacity
+pub step-places : (s : State) (r out : List ℕ) → length s.blocks ≡ suc capacity → well_shaped s ≡ true → length (step_shaped room s r out).state.blocks ≡ suc capacity
 unfolding settled
 step-places s r out places h = go (step-did s places h r out)
   where
-    go : Stepped room s r out (stepShaped room s r out) → length (stepShaped room s r out).state.blocks ≡ suc capacity
+    go : Stepped room s r out (step_shaped room s r out) → length (step_shaped room s r out).state.blocks ≡ suc capacity
     go (refused a e) = ap (λ (x : State). length x.blocks) e ∙ places
     go (took a p d e) = ap (λ (x : State). length x.blocks) e ∙ did-places s places h d
 
-pub step-sized : (s : State) (r out : List ℕ) → Sized s → wellShaped s ≡ true → Sized (stepShaped room s r out).state
+pub step-sized : (s : State) (r out : List ℕ) → Sized s → well_shaped s ≡ true → Sized (step_shaped room s r out).state
 step-sized s r out z h = go (step-did s z.blocks h r out)
   where
-    go : Stepped room s r out (stepShaped room s r out) → Sized (stepShaped room s r out).state
+    go : Stepped room s r out (step_shaped room s r out) → Sized (step_shaped room s r out).state
     go (refused a e) = subst Sized (sym e) z
     go (took a p d e) = subst Sized (sym e) (sized-settled (effect s r) (did-sized s z.blocks h z d))
 
 -- a state of the code that is well shaped: what a call keeps
 pub record Proper (s : State) : Type 0 where
   pub sized : Sized s
-  pub shaped : wellShaped s ≡ true
+  pub shaped : well_shaped s ≡ true
 
 pub size-proper : {s : State} → Proper s → size (rows s) ≡ suc s.count
 size-proper {s} k = size-shaped s k.sized.blocks k.shaped
@@ -233,6 +233,6 @@ size-proper {s} k = size-shaped s k.sized.blocks k.shaped
 pub some-rows : {s : State} → Proper s → 0 < size (rows s)
 some-rows k = omega (arith, size-proper k)
 
-pub step_keeps : (s : State) (r out : List ℕ) → Proper s → Proper (stepShaped room s r out).state
+pub step_keeps : (s : State) (r out : List ℕ) → Proper s → Proper (step_shaped room s r out).state
 step_keeps s r out k =
     record { sized = step-sized s r out k.sized k.shaped; shaped = step-shaped s r out k.sized.blocks k.shaped }

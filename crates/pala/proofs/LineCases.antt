@@ -2,7 +2,7 @@
 use Prim.Native.Nat.{ℕ, ◌+◌}
 use mathlib.Core.List.{List, [], ◌∷◌, ◌++◌, map}
 use mathlib.Core.Path.{◌≡◌, refl}
-use Rattle.pala.specs.Cases.{hear, clock, said, genesisName, A}
+use Rattle.pala.specs.Cases.{hear, clock, said, genesis_name, A}
 use Rattle.pala.specs.Lines.{digits, replay}
 use Rattle.pala.specs.Record.{message}
 
@@ -35,6 +35,6 @@ none-holds = refl
 
 -- "A short last record answers 3, .. and gets a line like any other."
 short-holds :
-    replay (4 ∷ 0 ∷ hear 1 1 A genesisName ++ clock 1 9 ++ (5 ∷ [])) ≡ said 1 0 1 0 0 ++ said 2 0 1 0 0 ++ said 3 3 1 0 0 ++ ended 3
+    replay (4 ∷ 0 ∷ hear 1 1 A genesis_name ++ clock 1 9 ++ (5 ∷ [])) ≡ said 1 0 1 0 0 ++ said 2 0 1 0 0 ++ said 3 3 1 0 0 ++ ended 3
 unfolding replay message
 short-holds = refl

@@ -13,15 +13,15 @@ use Rattle.table.specs.declared.Block.{Block}
 use Rattle.table.specs.declared.State.{State}
 use Rattle.table.specs.Scan.{pick}
 use Rattle.table.specs.Bytes.{zeros}
-use Rattle.table.specs.Rows.{mostNodes, nameBytes, payloadBytes, rows, size, at, find, hasVoter}
+use Rattle.table.specs.Rows.{most_nodes, name_bytes, payload_bytes, rows, size, at, find, has_voter}
 use Rattle.table.proofs.Laws.{not-both, pick_yes, pick_no, pick-case, lowest-hit}
-use Rattle.pala.specs.Answers.{taken, lowestOf, shapedRows, badLength, badSender, badEpoch, badName, unknown, bad_order, badTurn, repeats, nothing, full}
-use Rattle.pala.specs.Counts.{topEpoch}
-use Rattle.pala.specs.Record.{recordBytes, senderOf, epochOf, name_of, parentNameOf, payloadOf, is, knownKind, heard, unusedZero, proposalHeard, voteHeard, clockHeard, proposeNow, castNow, minuteUp}
-use Rattle.pala.specs.Rules.{epochAt, freshest, votable, ballot}
-use Rattle.pala.specs.Effects.{newBlock, withBlock, withVote, withClock, proposalEffect, voteEffect, clockEffect, proposeEffect, picked, castEffect, minuteEffect, effect}
+use Rattle.pala.specs.Answers.{taken, lowest_of, shaped_rows, bad_length, bad_sender, bad_epoch, bad_name, unknown, bad_order, bad_turn, repeats, nothing, full}
+use Rattle.pala.specs.Counts.{top_epoch}
+use Rattle.pala.specs.Record.{record_bytes, sender_of, epoch_of, name_of, parent_name_of, payload_of, is, known_kind, heard, unused_zero, proposal_heard, vote_heard, clock_heard, propose_now, cast_now, minute_up}
+use Rattle.pala.specs.Rules.{epoch_at, freshest, votable, ballot}
+use Rattle.pala.specs.Effects.{new_block, with_block, with_vote, with_clock, proposal_effect, vote_effect, clock_effect, propose_effect, picked, cast_effect, minute_effect, effect}
 use Rattle.pala.specs.Steps.{settled}
-use Rattle.pala.specs.Step.{Outcome, stepShaped, outcome}
+use Rattle.pala.specs.Step.{Outcome, step_shaped, outcome}
 use Rattle.pala.proofs.Tests.{and_l, nor-l, nor-r, nand, or_l, or_r, either}
 use Rattle.pala.proofs.Sized.{RowSized}
 use Rattle.pala.proofs.Places.{find-misses, freshest-in}
@@ -37,37 +37,37 @@ abbrev AllRefuse : List (Bool × Answer) → Type 0
 AllRefuse [] = Unit
 AllRefuse (row ∷ more) = (taken row.1 ≡ false) × AllRefuse more
 
-none-applies : (l : List (Bool × Answer)) → AllRefuse l → taken (lowestOf l) ≡ true → AllFalse l
-unfolding lowestOf pick
+none-applies : (l : List (Bool × Answer)) → AllRefuse l → taken (lowest_of l) ≡ true → AllFalse l
+unfolding lowest_of pick
 none-applies [] h e = tt
 none-applies (row ∷ more) h e = go row.0 refl e (none-applies more h.1)
   where
-    go : (b : Bool) → row.0 ≡ b → taken (pick b row.1 (lowestOf more)) ≡ true → (taken (lowestOf more) ≡ true → AllFalse more) → (row.0 ≡ false) × AllFalse more
+    go : (b : Bool) → row.0 ≡ b → taken (pick b row.1 (lowest_of more)) ≡ true → (taken (lowest_of more) ≡ true → AllFalse more) → (row.0 ≡ false) × AllFalse more
     go true d e r = absurd (not-both e h.0)
     go false d e r = (d, r e)
 
 -- the rows that a taken record passed
 pub record Passed (space : ℕ → Bool) (s : State) (r out : List ℕ) : Type 0 where
   pub whole : s.torn ≡ false
-  pub lengths : badLength r out ≡ false
-  pub kind : not (knownKind r) ≡ false
-  pub filler : not (unusedZero r) ≡ false
-  pub sender : badSender s r ≡ false
-  pub epoch : badEpoch s r ≡ false
-  pub name : badName (rows s) r ≡ false
+  pub lengths : bad_length r out ≡ false
+  pub kind : not (known_kind r) ≡ false
+  pub filler : not (unused_zero r) ≡ false
+  pub sender : bad_sender s r ≡ false
+  pub epoch : bad_epoch s r ≡ false
+  pub name : bad_name (rows s) r ≡ false
   pub known : unknown (rows s) r ≡ false
   pub order : bad_order s r ≡ false
-  pub turn : badTurn s r ≡ false
+  pub turn : bad_turn s r ≡ false
   pub new : repeats s r ≡ false
   pub ballots : nothing s r ≡ false
   pub room : full space s r ≡ false
 
-pub passed : (space : ℕ → Bool) (s : State) (r out : List ℕ) → taken (lowestOf (shapedRows space s r out)) ≡ true → Passed space s r out
-unfolding shapedRows taken
+pub passed : (space : ℕ → Bool) (s : State) (r out : List ℕ) → taken (lowest_of (shaped_rows space s r out)) ≡ true → Passed space s r out
+unfolding shaped_rows taken
 passed space s r out e =
-    go (none-applies (shapedRows space s r out) (refl, (refl, (refl, (refl, (refl, (refl, (refl, (refl, (refl, (refl, (refl, (refl, (refl, tt))))))))))))) e)
+    go (none-applies (shaped_rows space s r out) (refl, (refl, (refl, (refl, (refl, (refl, (refl, (refl, (refl, (refl, (refl, (refl, (refl, tt))))))))))))) e)
   where
-    go : AllFalse (shapedRows space s r out) → Passed space s r out
+    go : AllFalse (shaped_rows space s r out) → Passed space s r out
     go h =
         record {
           whole = h.0;
@@ -93,40 +93,40 @@ pub record NewBlock (t : List Block) (b : Block) : Type 0 where
   pub named : zeros b.name ≡ false
   pub alone : (q : ℕ) → q < size t → (at t q).name ≢ b.name
   pub lower : b.parent.0 < size t
-  pub earlier : epochAt t b.parent.0 < b.epoch.0
-  pub range : b.epoch.0 < topEpoch
-  pub silent : (i : ℕ) → hasVoter b i ≡ false
+  pub earlier : epoch_at t b.parent.0 < b.epoch.0
+  pub range : b.epoch.0 < top_epoch
+  pub silent : (i : ℕ) → has_voter b i ≡ false
 
 -- what a taken record did to a state
 pub data Did (space : ℕ → Bool) (s : State) (r : List ℕ) (u : State) : Type 0 where
-  added : (b : Block) (proposed : ℕ) → (is proposalHeard r ≡ true) ⊎ (is proposeNow r ≡ true)
-      → NewBlock (rows s) b → space s.count ≡ true → u ≡ withBlock s b proposed → Did space s r u
-  counted : is voteHeard r ≡ true → 0 < find (rows s) (name_of r) → find (rows s) (name_of r) < size (rows s)
-      → senderOf r < s.n → senderOf r ≢ s.own.0
-      → u ≡ withVote s (find (rows s) (name_of r)) (senderOf r) s.voted.0 → Did space s r u
-  cast : is castNow r ≡ true → picked s < size (rows s)
+  added : (b : Block) (proposed : ℕ) → (is proposal_heard r ≡ true) ⊎ (is propose_now r ≡ true)
+      → NewBlock (rows s) b → space s.count ≡ true → u ≡ with_block s b proposed → Did space s r u
+  counted : is vote_heard r ≡ true → 0 < find (rows s) (name_of r) → find (rows s) (name_of r) < size (rows s)
+      → sender_of r < s.n → sender_of r ≢ s.own.0
+      → u ≡ with_vote s (find (rows s) (name_of r)) (sender_of r) s.voted.0 → Did space s r u
+  cast : is cast_now r ≡ true → picked s < size (rows s)
       → votable s.n (rows s) s.local.0 s.bar.0 s.voted.0 (picked s) ≡ true
-      → u ≡ withVote s (picked s) s.own.0 s.local.0 → Did space s r u
-  clocked : (i c : ℕ) → is voteHeard r ≡ false → is castNow r ≡ false → i < s.n → u ≡ withClock s i c → Did space s r u
+      → u ≡ with_vote s (picked s) s.own.0 s.local.0 → Did space s r u
+  clocked : (i c : ℕ) → is vote_heard r ≡ false → is cast_now r ≡ false → i < s.n → u ≡ with_clock s i c → Did space s r u
 
 -- the fields of a record of 96 bytes
-field-length : (r : List ℕ) (from many : ℕ) → length r ≡ recordBytes → from + many ≤ recordBytes → length (take many (drop from r)) ≡ many
+field-length : (r : List ℕ) (from many : ℕ) → length r ≡ record_bytes → from + many ≤ record_bytes → length (take many (drop from r)) ≡ many
 field-length r from many e h = omega (arith, length-take many (drop from r), length-drop from r)
 
-pub name-length : (r : List ℕ) → length r ≡ recordBytes → length (name_of r) ≡ nameBytes
+pub name-length : (r : List ℕ) → length r ≡ record_bytes → length (name_of r) ≡ name_bytes
 unfolding name_of
-name-length r e = field-length r 8 nameBytes e (omega arith)
+name-length r e = field-length r 8 name_bytes e (omega arith)
 
-pub payload-length : (r : List ℕ) → length r ≡ recordBytes → length (payloadOf r) ≡ payloadBytes
-unfolding payloadOf
-payload-length r e = field-length r 72 payloadBytes e (omega arith)
+pub payload-length : (r : List ℕ) → length r ≡ record_bytes → length (payload_of r) ≡ payload_bytes
+unfolding payload_of
+payload-length r e = field-length r 72 payload_bytes e (omega arith)
 
-pub record-length : (r out : List ℕ) → badLength r out ≡ false → length r ≡ recordBytes
-unfolding badLength
+pub record-length : (r out : List ℕ) → bad_length r out ≡ false → length r ≡ record_bytes
+unfolding bad_length
 record-length r out h =
-    eqb-true (length r) recordBytes
-    (and_l (eqb (length r) recordBytes) (eqb (length out) recordBytes)
-    (not-false (eqb (length r) recordBytes && eqb (length out) recordBytes) h))
+    eqb-true (length r) record_bytes
+    (and_l (eqb (length r) record_bytes) (eqb (length out) record_bytes)
+    (not-false (eqb (length r) record_bytes && eqb (length out) record_bytes) h))
 
 no-voters : (k i : ℕ) → get_or (replicate k false) i false ≡ false
 no-voters zero i = refl
@@ -134,20 +134,20 @@ no-voters (suc k) zero = refl
 no-voters (suc k) (suc i) = no-voters k i
 
 -- a block made of a record's name and payload
-made-sized : (r : List ℕ) (epoch parent : ℕ) → length r ≡ recordBytes → RowSized (newBlock (name_of r) epoch parent (payloadOf r))
-unfolding newBlock
+made-sized : (r : List ℕ) (epoch parent : ℕ) → length r ≡ record_bytes → RowSized (new_block (name_of r) epoch parent (payload_of r))
+unfolding new_block
 made-sized r epoch parent e =
-    record { name = name-length r e; payload = payload-length r e; voters = length-replicate mostNodes false }
+    record { name = name-length r e; payload = payload-length r e; voters = length-replicate most_nodes false }
 
-made-silent : (name : List ℕ) (epoch parent : ℕ) (payload : List ℕ) (i : ℕ) → hasVoter (newBlock name epoch parent payload) i ≡ false
-unfolding newBlock hasVoter
-made-silent name epoch parent payload i = no-voters mostNodes i
+made-silent : (name : List ℕ) (epoch parent : ℕ) (payload : List ℕ) (i : ℕ) → has_voter (new_block name epoch parent payload) i ≡ false
+unfolding new_block has_voter
+made-silent name epoch parent payload i = no-voters most_nodes i
 
 -- a new name: not of zeros, and not in the table
-module _ (t : List Block) (r : List ℕ) (h : badName t r ≡ false) (k : (is proposalHeard r || is proposeNow r) ≡ true) where
+module _ (t : List Block) (r : List ℕ) (h : bad_name t r ≡ false) (k : (is proposal_heard r || is propose_now r) ≡ true) where
   new-tests : (zeros (name_of r) || ltb (find t (name_of r)) (size t)) ≡ false
-  unfolding badName
-  new-tests = nand (is proposalHeard r || is proposeNow r) (zeros (name_of r) || ltb (find t (name_of r)) (size t)) h k
+  unfolding bad_name
+  new-tests = nand (is proposal_heard r || is propose_now r) (zeros (name_of r) || ltb (find t (name_of r)) (size t)) h k
 
   new-named : zeros (name_of r) ≡ false
   new-named = nor-l (zeros (name_of r)) (ltb (find t (name_of r)) (size t)) new-tests
@@ -158,59 +158,59 @@ module _ (t : List Block) (r : List ℕ) (h : badName t r ≡ false) (k : (is pr
       (ltb-false (find t (name_of r)) (size t) (nor-r (zeros (name_of r)) (ltb (find t (name_of r)) (size t)) new-tests))
 
 -- room for one more
-new-room : (space : ℕ → Bool) (s : State) (r : List ℕ) → full space s r ≡ false → (is proposalHeard r || is proposeNow r) ≡ true → space s.count ≡ true
+new-room : (space : ℕ → Bool) (s : State) (r : List ℕ) → full space s r ≡ false → (is proposal_heard r || is propose_now r) ≡ true → space s.count ≡ true
 unfolding full
 new-room space s r h k =
-    not-false (space s.count) (nand (is proposalHeard r || is proposeNow r) (not (space s.count)) h k)
+    not-false (space s.count) (nand (is proposal_heard r || is propose_now r) (not (space s.count)) h k)
 
 -- rows 7, 9 and 10 for kinds 1 and 4, row 6 for every kind
 module _ (s : State) (r : List ℕ) where
-  heard-range : badEpoch s r ≡ false → is proposalHeard r ≡ true → epochOf r < topEpoch
-  unfolding badEpoch
+  heard-range : bad_epoch s r ≡ false → is proposal_heard r ≡ true → epoch_of r < top_epoch
+  unfolding bad_epoch
   heard-range h k =
-      let a : (is proposalHeard r && (eqb (epochOf r) 0 || leb topEpoch (epochOf r))) ≡ false = search (nor-l, nor-r) in
-      leb-false topEpoch (epochOf r)
-      (nor-r (eqb (epochOf r) 0) (leb topEpoch (epochOf r)) (nand (is proposalHeard r) (eqb (epochOf r) 0 || leb topEpoch (epochOf r)) a k))
+      let a : (is proposal_heard r && (eqb (epoch_of r) 0 || leb top_epoch (epoch_of r))) ≡ false = search (nor-l, nor-r) in
+      leb-false top_epoch (epoch_of r)
+      (nor-r (eqb (epoch_of r) 0) (leb top_epoch (epoch_of r)) (nand (is proposal_heard r) (eqb (epoch_of r) 0 || leb top_epoch (epoch_of r)) a k))
 
-  own_range : badEpoch s r ≡ false → is proposeNow r ≡ true → s.local.0 < topEpoch
-  unfolding badEpoch
+  own_range : bad_epoch s r ≡ false → is propose_now r ≡ true → s.local.0 < top_epoch
+  unfolding bad_epoch
   own_range h k =
-      let a : ((is proposeNow r || is minuteUp r) && leb topEpoch s.local.0) ≡ false = search (nor-l, nor-r) in
-      leb-false topEpoch s.local.0
-      (nand (is proposeNow r || is minuteUp r) (leb topEpoch s.local.0) a (or_l (is proposeNow r) (is minuteUp r) k))
+      let a : ((is propose_now r || is minute_up r) && leb top_epoch s.local.0) ≡ false = search (nor-l, nor-r) in
+      leb-false top_epoch s.local.0
+      (nand (is propose_now r || is minute_up r) (leb top_epoch s.local.0) a (or_l (is propose_now r) (is minute_up r) k))
 
-  parent-known : unknown (rows s) r ≡ false → is proposalHeard r ≡ true → find (rows s) (parentNameOf r) < size (rows s)
+  parent-known : unknown (rows s) r ≡ false → is proposal_heard r ≡ true → find (rows s) (parent_name_of r) < size (rows s)
   unfolding unknown
   parent-known h k =
-      let a : (is proposalHeard r && leb (size (rows s)) (find (rows s) (parentNameOf r))) ≡ false = search nor-l in
-      leb-false (size (rows s)) (find (rows s) (parentNameOf r)) (nand (is proposalHeard r) (leb (size (rows s)) (find (rows s) (parentNameOf r))) a k)
+      let a : (is proposal_heard r && leb (size (rows s)) (find (rows s) (parent_name_of r))) ≡ false = search nor-l in
+      leb-false (size (rows s)) (find (rows s) (parent_name_of r)) (nand (is proposal_heard r) (leb (size (rows s)) (find (rows s) (parent_name_of r))) a k)
 
-  heard-order : bad_order s r ≡ false → is proposalHeard r ≡ true → epochAt (rows s) (find (rows s) (parentNameOf r)) < epochOf r
+  heard-order : bad_order s r ≡ false → is proposal_heard r ≡ true → epoch_at (rows s) (find (rows s) (parent_name_of r)) < epoch_of r
   unfolding bad_order
   heard-order h k =
-      let above = epochAt (rows s) (find (rows s) (parentNameOf r)) in
-      let a : (is proposalHeard r && leb (epochOf r) above) ≡ false = search nor-l in
-      leb-false (epochOf r) above (nand (is proposalHeard r) (leb (epochOf r) above) a k)
+      let above = epoch_at (rows s) (find (rows s) (parent_name_of r)) in
+      let a : (is proposal_heard r && leb (epoch_of r) above) ≡ false = search nor-l in
+      leb-false (epoch_of r) above (nand (is proposal_heard r) (leb (epoch_of r) above) a k)
 
-  own-order : bad_order s r ≡ false → is proposeNow r ≡ true → epochAt (rows s) (freshest s.n (rows s)) < s.local.0
+  own-order : bad_order s r ≡ false → is propose_now r ≡ true → epoch_at (rows s) (freshest s.n (rows s)) < s.local.0
   unfolding bad_order
   own-order h k =
-      let above = epochAt (rows s) (freshest s.n (rows s)) in
-      let a : (is proposeNow r && leb s.local.0 above) ≡ false = search (nor-l, nor-r) in
-      leb-false s.local.0 above (nand (is proposeNow r) (leb s.local.0 above) a k)
+      let above = epoch_at (rows s) (freshest s.n (rows s)) in
+      let a : (is propose_now r && leb s.local.0 above) ≡ false = search (nor-l, nor-r) in
+      leb-false s.local.0 above (nand (is propose_now r) (leb s.local.0 above) a k)
 
-  sender-below : badSender s r ≡ false → senderOf r < s.n
-  unfolding badSender
-  sender-below h = let a : leb s.n (senderOf r) ≡ false = search nor-l in leb-false s.n (senderOf r) a
+  sender-below : bad_sender s r ≡ false → sender_of r < s.n
+  unfolding bad_sender
+  sender-below h = let a : leb s.n (sender_of r) ≡ false = search nor-l in leb-false s.n (sender_of r) a
 
 -- row 9 and row 6 for kind 2
-module _ (s : State) (r : List ℕ) (k : is voteHeard r ≡ true) where
+module _ (s : State) (r : List ℕ) (k : is vote_heard r ≡ true) where
   vote-tests : unknown (rows s) r ≡ false → (eqb (find (rows s) (name_of r)) 0 || leb (size (rows s)) (find (rows s) (name_of r))) ≡ false
   unfolding unknown
   vote-tests h =
       let tests = eqb (find (rows s) (name_of r)) 0 || leb (size (rows s)) (find (rows s) (name_of r)) in
-      let a : (is voteHeard r && tests) ≡ false = search (nor-l, nor-r) in
-      nand (is voteHeard r) tests a k
+      let a : (is vote_heard r && tests) ≡ false = search (nor-l, nor-r) in
+      nand (is vote_heard r) tests a k
 
   vote-above : unknown (rows s) r ≡ false → 0 < find (rows s) (name_of r)
   vote-above h =
@@ -223,46 +223,46 @@ module _ (s : State) (r : List ℕ) (k : is voteHeard r ≡ true) where
       let place = find (rows s) (name_of r) in
       leb-false (size (rows s)) place (nor-r (eqb place 0) (leb (size (rows s)) place) (vote-tests h))
 
-  vote-other : badSender s r ≡ false → senderOf r ≢ s.own.0
-  unfolding badSender heard
+  vote-other : bad_sender s r ≡ false → sender_of r ≢ s.own.0
+  unfolding bad_sender heard
   vote-other h =
-      let own = eqb (senderOf r) s.own.0 in
-      let hears : heard r ≡ true = ap (λ (x : ℕ). leb x clockHeard) (eqb-true (get_or r 0 0) voteHeard k) in
-      eqb-false (senderOf r) s.own.0
-      (sym (pick_yes (heard r) own (not own) hears) ∙ nor-r (leb s.n (senderOf r)) (pick (heard r) own (not own)) h)
+      let own = eqb (sender_of r) s.own.0 in
+      let hears : heard r ≡ true = ap (λ (x : ℕ). leb x clock_heard) (eqb-true (get_or r 0 0) vote_heard k) in
+      eqb-false (sender_of r) s.own.0
+      (sym (pick_yes (heard r) own (not own) hears) ∙ nor-r (leb s.n (sender_of r)) (pick (heard r) own (not own)) h)
 
 -- a record has one kind
 pub other-kind : (r : List ℕ) (a b : ℕ) → is a r ≡ true → eqb a b ≡ false → is b r ≡ false
 other-kind r a b k e = ap (λ (x : ℕ). eqb x b) (eqb-true (get_or r 0 0) a k) ∙ e
 
-pub block-no-cast : (r : List ℕ) → (is proposalHeard r ≡ true) ⊎ (is proposeNow r ≡ true) → is castNow r ≡ false
-block-no-cast r (inl k) = other-kind r proposalHeard castNow k refl
-block-no-cast r (inr k) = other-kind r proposeNow castNow k refl
+pub block-no-cast : (r : List ℕ) → (is proposal_heard r ≡ true) ⊎ (is propose_now r ≡ true) → is cast_now r ≡ false
+block-no-cast r (inl k) = other-kind r proposal_heard cast_now k refl
+block-no-cast r (inr k) = other-kind r propose_now cast_now k refl
 
 module _ (space : ℕ → Bool) (s : State) (r out : List ℕ) (p : Passed space s r out) where
-  did-proposal : is proposalHeard r ≡ true → Did space s r (proposalEffect s r)
-  unfolding proposalEffect newBlock
+  did-proposal : is proposal_heard r ≡ true → Did space s r (proposal_effect s r)
+  unfolding proposal_effect new_block
   did-proposal k =
-      let kinds : (is proposalHeard r || is proposeNow r) ≡ true = or_l (is proposalHeard r) (is proposeNow r) k in
-      let parent = find (rows s) (parentNameOf r) in
-      added (newBlock (name_of r) (epochOf r) parent (payloadOf r)) s.proposed.0 (inl k)
+      let kinds : (is proposal_heard r || is propose_now r) ≡ true = or_l (is proposal_heard r) (is propose_now r) k in
+      let parent = find (rows s) (parent_name_of r) in
+      added (new_block (name_of r) (epoch_of r) parent (payload_of r)) s.proposed.0 (inl k)
       (record {
-        sized = made-sized r (epochOf r) parent (record-length r out p.lengths);
+        sized = made-sized r (epoch_of r) parent (record-length r out p.lengths);
         named = new-named (rows s) r p.name kinds;
         alone = new-alone (rows s) r p.name kinds;
         lower = parent-known s r p.known k;
         earlier = heard-order s r p.order k;
         range = heard-range s r p.epoch k;
-        silent = made-silent (name_of r) (epochOf r) parent (payloadOf r);
+        silent = made-silent (name_of r) (epoch_of r) parent (payload_of r);
       })
       (new-room space s r p.room kinds) refl
 
-  did-propose : 0 < size (rows s) → is proposeNow r ≡ true → Did space s r (proposeEffect s r)
-  unfolding proposeEffect newBlock
+  did-propose : 0 < size (rows s) → is propose_now r ≡ true → Did space s r (propose_effect s r)
+  unfolding propose_effect new_block
   did-propose some k =
-      let kinds : (is proposalHeard r || is proposeNow r) ≡ true = or_r (is proposalHeard r) (is proposeNow r) k in
+      let kinds : (is proposal_heard r || is propose_now r) ≡ true = or_r (is proposal_heard r) (is propose_now r) k in
       let parent = freshest s.n (rows s) in
-      added (newBlock (name_of r) s.local.0 parent (payloadOf r)) s.local.0 (inr k)
+      added (new_block (name_of r) s.local.0 parent (payload_of r)) s.local.0 (inr k)
       (record {
         sized = made-sized r s.local.0 parent (record-length r out p.lengths);
         named = new-named (rows s) r p.name kinds;
@@ -270,31 +270,31 @@ module _ (space : ℕ → Bool) (s : State) (r out : List ℕ) (p : Passed space
         lower = freshest-in s.n (rows s) some;
         earlier = own-order s r p.order k;
         range = own_range s r p.epoch k;
-        silent = made-silent (name_of r) s.local.0 parent (payloadOf r);
+        silent = made-silent (name_of r) s.local.0 parent (payload_of r);
       })
       (new-room space s r p.room kinds) refl
 
-  did-vote : is voteHeard r ≡ true → Did space s r (voteEffect s r)
-  unfolding voteEffect
+  did-vote : is vote_heard r ≡ true → Did space s r (vote_effect s r)
+  unfolding vote_effect
   did-vote k =
       counted k (vote-above s r k p.known) (vote-in s r k p.known) (sender-below s r p.sender) (vote-other s r k p.sender) refl
 
-  did-cast : is castNow r ≡ true → Did space s r (castEffect s (picked s))
-  unfolding castEffect picked nothing ballot
+  did-cast : is cast_now r ≡ true → Did space s r (cast_effect s (picked s))
+  unfolding cast_effect picked nothing ballot
   did-cast k =
-      let inside : picked s < size (rows s) = leb-false (size (rows s)) (picked s) (nand (is castNow r) (leb (size (rows s)) (picked s)) p.ballots k) in
+      let inside : picked s < size (rows s) = leb-false (size (rows s)) (picked s) (nand (is cast_now r) (leb (size (rows s)) (picked s)) p.ballots k) in
       cast k inside (lowest-hit (size (rows s)) (λ q. votable s.n (rows s) s.local.0 s.bar.0 s.voted.0 q) inside) refl
 
   -- "First the direct effect."
   pub did : 0 < size (rows s) → s.own.0 < s.n → Did space s r (effect s r)
-  unfolding effect clockEffect minuteEffect
+  unfolding effect clock_effect minute_effect
   did some own =
-      pick-case (Did space s r) (is proposalHeard r) _ _ did-proposal
-      (λ k1. pick-case (Did space s r) (is voteHeard r) _ _ did-vote
-      (λ k2. pick-case (Did space s r) (is clockHeard r) _ _
-      (λ k3. clocked (senderOf r) (epochOf r) k2 (other-kind r clockHeard castNow k3 refl) (sender-below s r p.sender) refl)
-      (λ k3. pick-case (Did space s r) (is proposeNow r) _ _ (did-propose some)
-      (λ k4. pick-case (Did space s r) (is castNow r) _ _ did-cast (λ k5. clocked s.own.0 (s.local.0 + 1) k2 k5 own refl)))))
+      pick-case (Did space s r) (is proposal_heard r) _ _ did-proposal
+      (λ k1. pick-case (Did space s r) (is vote_heard r) _ _ did-vote
+      (λ k2. pick-case (Did space s r) (is clock_heard r) _ _
+      (λ k3. clocked (sender_of r) (epoch_of r) k2 (other-kind r clock_heard cast_now k3 refl) (sender-below s r p.sender) refl)
+      (λ k3. pick-case (Did space s r) (is propose_now r) _ _ (did-propose some)
+      (λ k4. pick-case (Did space s r) (is cast_now r) _ _ did-cast (λ k5. clocked s.own.0 (s.local.0 + 1) k2 k5 own refl)))))
 
 -- ---- a call on a well-shaped state
 
@@ -303,14 +303,14 @@ pub data Stepped (space : ℕ → Bool) (s : State) (r out : List ℕ) (o : Outc
   refused : taken o.answer ≡ false → o.state ≡ s → Stepped space s r out o
   took : taken o.answer ≡ true → Passed space s r out → Did space s r (effect s r) → o.state ≡ settled (effect s r) → Stepped space s r out o
 
-pub stepped : (space : ℕ → Bool) (s : State) (r out : List ℕ) → 0 < size (rows s) → s.own.0 < s.n → Stepped space s r out (stepShaped space s r out)
-unfolding stepShaped outcome
+pub stepped : (space : ℕ → Bool) (s : State) (r out : List ℕ) → 0 < size (rows s) → s.own.0 < s.n → Stepped space s r out (step_shaped space s r out)
+unfolding step_shaped outcome
 stepped space s r out some own = go (either (taken a))
   where
     a : Answer
-    a = lowestOf (shapedRows space s r out)
+    a = lowest_of (shaped_rows space s r out)
 
-    go : (taken a ≡ true) ⊎ (taken a ≡ false) → Stepped space s r out (stepShaped space s r out)
+    go : (taken a ≡ true) ⊎ (taken a ≡ false) → Stepped space s r out (step_shaped space s r out)
     go (inl k) =
         took k (passed space s r out k) (did space s r out (passed space s r out k) some own)
         (pick_yes (taken a) (settled (effect s r)) s k)

@@ -12,7 +12,7 @@ use Rattle.table.specs.declared.Block.{Block}
 use Rattle.table.specs.Bytes.{same}
 use Rattle.table.specs.Rows.{size, at, find}
 use Rattle.table.proofs.Laws.{not-both, lowest-hit, lowest-below, highest-in, same_refl, same_true}
-use Rattle.pala.specs.Rules.{epochAt, parent_of, firm, freshest, votable, freshestNormal, candidate}
+use Rattle.pala.specs.Rules.{epoch_at, parent_of, firm, freshest, votable, freshest_normal, candidate}
 use Rattle.pala.proofs.Tests.{and_l, and_r}
 use Rattle.pala.proofs.Falls.{lower-is, lower-zero, lower-below, lower-le}
 
@@ -57,35 +57,35 @@ pub freshest-in : (n : ℕ) (t : List Block) → 0 < size t → freshest n t < s
 unfolding freshest
 freshest-in n t = highest-in (size t) _ _
 
-normal-in : (n : ℕ) (t : List Block) → 0 < size t → freshestNormal n t < size t
-unfolding freshestNormal
+normal-in : (n : ℕ) (t : List Block) → 0 < size t → freshest_normal n t < size t
+unfolding freshest_normal
 normal-in n t = highest-in (size t) _ _
 
 pub candidate-in : (n : ℕ) (t : List Block) → 0 < size t → candidate n t < size t
 unfolding candidate
-candidate-in n t h = omega (arith, normal-in n t h, parent-lower t (freshestNormal n t))
+candidate-in n t h = omega (arith, normal-in n t h, parent-lower t (freshest_normal n t))
 
 -- ---- "A block may be voted for when ..", part by part
 
 pub record Votable (n : ℕ) (t : List Block) (local bar voted p : ℕ) : Type 0 where
   pub above : 0 < p
-  pub now : epochAt t p ≡ local
+  pub now : epoch_at t p ≡ local
   pub firmly : firm n t (parent_of t p) ≡ true
-  pub fresher : bar ≤ epochAt t (parent_of t p)
+  pub fresher : bar ≤ epoch_at t (parent_of t p)
   pub new : voted ≢ local
 
 pub votable-parts : (n : ℕ) (t : List Block) (local bar voted p : ℕ) → votable n t local bar voted p ≡ true → Votable n t local bar voted p
 unfolding votable
 votable-parts n t local bar voted p h =
     let a : ltb 0 p ≡ true = search (and_l, and_r) in
-    let b : eqb (epochAt t p) local ≡ true = search (and_l, and_r) in
+    let b : eqb (epoch_at t p) local ≡ true = search (and_l, and_r) in
     let c : firm n t (parent_of t p) ≡ true = search (and_l, and_r) in
-    let d : leb bar (epochAt t (parent_of t p)) ≡ true = search (and_l, and_r) in
+    let d : leb bar (epoch_at t (parent_of t p)) ≡ true = search (and_l, and_r) in
     let e : not (eqb voted local) ≡ true = search (and_l, and_r) in
     record {
       above = ltb-true 0 p a;
-      now = eqb-true (epochAt t p) local b;
+      now = eqb-true (epoch_at t p) local b;
       firmly = c;
-      fresher = leb-true bar (epochAt t (parent_of t p)) d;
+      fresher = leb-true bar (epoch_at t (parent_of t p)) d;
       new = eqb-false voted local (not-true (eqb voted local) e);
     }

@@ -8,21 +8,21 @@ use lib.ListN.{length}
 use Rattle.table.specs.declared.State.{State}
 use Rattle.table.specs.Rows.{capacity, rows, size}
 use Rattle.pala.specs.Effects.{effect}
-use Rattle.pala.specs.Lists.{finalNames}
-use Rattle.pala.specs.Shape.{wellShaped}
+use Rattle.pala.specs.Lists.{final_names}
+use Rattle.pala.specs.Shape.{well_shaped}
 use Rattle.pala.specs.Step.{Outcome, step, room}
 use Rattle.pala.proofs.Grown.{Grown, grown-same, rows_settled}
 use Rattle.pala.proofs.Shapes.{shaped-kept}
 use Rattle.pala.proofs.Moves.{Stepped, refused, took}
 use Rattle.pala.proofs.Keeps.{size-shaped, did_grows, step-shaped, step-places}
 use Rattle.pala.proofs.Calls.{step_is, step-stepped}
-use Rattle.pala.proofs.Finals.{namesTo, finals-are}
+use Rattle.pala.proofs.Finals.{names_to, finals-are}
 use Rattle.pala.proofs.Demand.Onward.{grown-names}
 
 -- a state to go on from: its 65 rows and its shape
 pub record Playable (s : State) : Type 0 where
   pub places : length s.blocks ≡ suc capacity
-  pub shaped : wellShaped s ≡ true
+  pub shaped : well_shaped s ≡ true
 
 module _ (s : State) (r out : List ℕ) (k : Playable s) where
   -- the next state is one to go on from
@@ -40,10 +40,10 @@ module _ (s : State) (r out : List ℕ) (k : Playable s) where
       go (took a p d e) = subst (Grown (rows s)) (sym (ap rows e ∙ rows_settled (effect s r))) (did_grows s k.places k.shaped d)
 
   -- while the kept place stays, so do the final names
-  pub names-stay : (step s r out).state.kept.0 ≡ s.kept.0 → finalNames (step s r out).state ≡ finalNames s
+  pub names-stay : (step s r out).state.kept.0 ≡ s.kept.0 → final_names (step s r out).state ≡ final_names s
   names-stay e =
       let inside : s.kept.0 < size (rows s) = omega (arith, shaped-kept s k.shaped, size-shaped s k.places k.shaped) in
       finals-are (step s r out).state
-      ∙ ap (namesTo (rows (step s r out).state)) e
+      ∙ ap (names_to (rows (step s r out).state)) e
       ∙ grown-names step-grows s.kept.0 inside
       ∙ sym (finals-are s)

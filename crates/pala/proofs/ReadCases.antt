@@ -9,13 +9,13 @@ use Rattle.table.specs.declared.State.{State}
 use Rattle.table.specs.Rows.{blank}
 use Rattle.pala.specs.Cases.{session, vote, A, B, C}
 use Rattle.pala.specs.Record.{message}
-use Rattle.pala.specs.Lists.{joined, finalList, relation, relationNumber, relationIndex, relationCode, tail}
+use Rattle.pala.specs.Lists.{joined, final_list, relation, relation_number, relation_index, relation_code, tail}
 use Rattle.pala.specs.Run.{run}
 use Rattle.pala.proofs.States.{block, table, state_of}
 
 -- a torn state that keeps B, on A, as its final block, beside C; own number 4 is a bad shape
-abbrev finalB : ℕ → State
-finalB own = state_of 4 own 3 3 3 [] (blank ∷ block A 1 0 3 ∷ block C 1 0 0 ∷ block B 2 1 3 ∷ []) true
+abbrev final_b : ℕ → State
+final_b own = state_of 4 own 3 3 3 [] (blank ∷ block A 1 0 3 ∷ block C 1 0 0 ∷ block B 2 1 3 ∷ []) true
 
 abbrev sevens : ℕ → List ℕ
 sevens k = replicate k 7
@@ -23,11 +23,11 @@ sevens k = replicate k 7
 -- "names from the first block after genesis to the kept final block, 32 bytes each, into a lent buffer; the rest of it unchanged; the
 -- count is returned. 1 for a badly shaped state, 3 for too little room, nothing written. A torn state can be read."
 lists-hold :
-    (finalList (finalB 0) (sevens 70) ≡ record { answer = Answer.Taken; count = 2; list = A ++ B ++ sevens 6 })
-    × (finalList (finalB 0) (sevens 64) ≡ record { answer = Answer.Taken; count = 2; list = A ++ B })
-    × (finalList (finalB 0) (sevens 63) ≡ record { answer = Answer.Length; count = 0; list = sevens 63 })
-    × (finalList (finalB 4) (sevens 63) ≡ record { answer = Answer.State; count = 0; list = sevens 63 })
-unfolding finalList table blank
+    (final_list (final_b 0) (sevens 70) ≡ record { answer = Answer.Taken; count = 2; list = A ++ B ++ sevens 6 })
+    × (final_list (final_b 0) (sevens 64) ≡ record { answer = Answer.Taken; count = 2; list = A ++ B })
+    × (final_list (final_b 0) (sevens 63) ≡ record { answer = Answer.Length; count = 0; list = sevens 63 })
+    × (final_list (final_b 4) (sevens 63) ≡ record { answer = Answer.State; count = 0; list = sevens 63 })
+unfolding final_list table blank
 lists-hold = (refl, refl, refl, refl)
 
 -- what two lists show: relation, index, what reaches C, and the tail
@@ -38,18 +38,18 @@ record Pair : Type 0 where
   rest : List ℕ
 
 unfoldable pair : List ℕ → List ℕ → Pair
-unfolding relation relationNumber relationIndex relationCode tail
+unfolding relation relation_number relation_index relation_code tail
 pair a b =
     record {
-      number = relationNumber (relation a b);
-      index = relationIndex (relation a b);
-      code = relationCode (relation a b);
+      number = relation_number (relation a b);
+      index = relation_index (relation a b);
+      code = relation_code (relation a b);
       rest = tail a b;
     }
 
 -- a name that differs from B in its last byte
-abbrev nearB : List ℕ
-nearB = replicate 31 0x0B ++ (0x0C ∷ [])
+abbrev near_b : List ℕ
+near_b = replicate 31 0x0B ++ (0x0C ∷ [])
 
 -- "relation 0 equal, 1 first longer and beginning with the second, 2 the reverse, 3 fork, with the index of the first name that
 -- differs (0 in the other relations), 4 a length that isn't a multiple of 32 (index 0)"; "relation x 2^60 + index"
@@ -58,7 +58,7 @@ relations-hold :
     × (pair [] [] ≡ record { number = 0; index = 0; code = 0; rest = [] })
     × (pair (A ++ B ++ C) A ≡ record { number = 1; index = 0; code = 1152921504606846976; rest = B ++ C })
     × (pair [] (A ++ B) ≡ record { number = 2; index = 0; code = 2305843009213693952; rest = A ++ B })
-    × (pair (A ++ nearB) (A ++ B ++ C) ≡ record { number = 3; index = 1; code = 3458764513820540929; rest = [] })
+    × (pair (A ++ near_b) (A ++ B ++ C) ≡ record { number = 3; index = 1; code = 3458764513820540929; rest = [] })
     × (pair (A ++ B ++ C) B ≡ record { number = 3; index = 0; code = 3458764513820540928; rest = [] })
     × (pair (A ++ (0 ∷ [])) A ≡ record { number = 4; index = 0; code = 4611686018427387904; rest = [] })
     × (pair A (drop 1 B) ≡ record { number = 4; index = 0; code = 4611686018427387904; rest = [] })

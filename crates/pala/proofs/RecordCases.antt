@@ -4,7 +4,7 @@ use mathlib.Core.Bool.{Bool, true, false}
 use mathlib.Core.List.{List, [], ◌∷◌, ◌++◌, map}
 use mathlib.Core.Path.{◌≡◌, refl}
 use lib.ListN.{set, replicate}
-use Rattle.pala.specs.Record.{kind_of, senderOf, spare, epochField, epochOf, name_of, parentNameOf, payloadOf, knownKind, heard, usesEpoch, usesName, usesParent, usesPayload, unusedZero, message}
+use Rattle.pala.specs.Record.{kind_of, sender_of, spare, epoch_field, epoch_of, name_of, parent_name_of, payload_of, known_kind, heard, uses_epoch, uses_name, uses_parent, uses_payload, unused_zero, message}
 
 -- k bytes that count up from a first
 unfoldable counting : ℕ → ℕ → List ℕ
@@ -18,14 +18,14 @@ bytes = counting 96 0
 -- "Byte 0 kind, 1 sender, 2 and 3 zero, 4 to 7 epoch (low byte first), 8 to 39 name, 40 to 71 parent name, 72 to 95 payload."
 fields_at :
     (kind_of bytes ≡ 0)
-    × (senderOf bytes ≡ 1)
+    × (sender_of bytes ≡ 1)
     × (spare bytes ≡ 2 ∷ 3 ∷ [])
-    × (epochField bytes ≡ 4 ∷ 5 ∷ 6 ∷ 7 ∷ [])
-    × (epochOf bytes ≡ 0x07060504)
+    × (epoch_field bytes ≡ 4 ∷ 5 ∷ 6 ∷ 7 ∷ [])
+    × (epoch_of bytes ≡ 0x07060504)
     × (name_of bytes ≡ counting 32 8)
-    × (parentNameOf bytes ≡ counting 32 40)
-    × (payloadOf bytes ≡ counting 24 72)
-unfolding bytes counting spare epochField epochOf name_of parentNameOf payloadOf
+    × (parent_name_of bytes ≡ counting 32 40)
+    × (payload_of bytes ≡ counting 24 72)
+unfolding bytes counting spare epoch_field epoch_of name_of parent_name_of payload_of
 fields_at = (refl, refl, refl, refl, refl, refl, refl, refl)
 
 -- .. and the same bytes written
@@ -42,24 +42,24 @@ kinds = map kind (counting 6 1)
 
 -- "kind isn't 1 to 6"; kinds 1 to 3 are heard
 kinds-known :
-    (map knownKind (kind 0 ∷ kinds ++ (kind 7 ∷ kind 255 ∷ [])) ≡ false ∷ replicate 6 true ++ (false ∷ false ∷ []))
+    (map known_kind (kind 0 ∷ kinds ++ (kind 7 ∷ kind 255 ∷ [])) ≡ false ∷ replicate 6 true ++ (false ∷ false ∷ []))
     × (map heard kinds ≡ replicate 3 true ++ replicate 3 false)
-unfolding counting knownKind heard
+unfolding counting known_kind heard
 kinds-known = (refl, refl)
 
 -- "fields used": 1 all, 2 name, 3 epoch, 4 name and payload, 5 and 6 none
 fields-used :
-    (map usesEpoch kinds ≡ true ∷ false ∷ true ∷ false ∷ false ∷ false ∷ [])
-    × (map usesName kinds ≡ true ∷ true ∷ false ∷ true ∷ false ∷ false ∷ [])
-    × (map usesParent kinds ≡ true ∷ false ∷ false ∷ false ∷ false ∷ false ∷ [])
-    × (map usesPayload kinds ≡ true ∷ false ∷ false ∷ true ∷ false ∷ false ∷ [])
-unfolding counting usesEpoch usesName usesParent usesPayload
+    (map uses_epoch kinds ≡ true ∷ false ∷ true ∷ false ∷ false ∷ false ∷ [])
+    × (map uses_name kinds ≡ true ∷ true ∷ false ∷ true ∷ false ∷ false ∷ [])
+    × (map uses_parent kinds ≡ true ∷ false ∷ false ∷ false ∷ false ∷ false ∷ [])
+    × (map uses_payload kinds ≡ true ∷ false ∷ false ∷ true ∷ false ∷ false ∷ [])
+unfolding counting uses_epoch uses_name uses_parent uses_payload
 fields-used = (refl, refl, refl, refl)
 
 -- may a record of the kind have another byte than 0 at bytes 2 and 3, and at the first and the last byte of the epoch, the name, the
 -- parent name and the payload
 abbrev allowed : ℕ → List Bool
-allowed k = map (λ i. unusedZero (set (kind k) i 1)) (2 ∷ 3 ∷ 4 ∷ 7 ∷ 8 ∷ 39 ∷ 40 ∷ 71 ∷ 72 ∷ 95 ∷ [])
+allowed k = map (λ i. unused_zero (set (kind k) i 1)) (2 ∷ 3 ∷ 4 ∷ 7 ∷ 8 ∷ 39 ∷ 40 ∷ 71 ∷ 72 ∷ 95 ∷ [])
 
 abbrev bytes_of : Bool → Bool → Bool → Bool → List Bool
 bytes_of epoch name parent payload = false ∷ false ∷ epoch ∷ epoch ∷ name ∷ name ∷ parent ∷ parent ∷ payload ∷ payload ∷ []
@@ -72,5 +72,5 @@ unused-zero :
     × (allowed 4 ≡ bytes_of false true false true)
     × (allowed 5 ≡ bytes_of false false false false)
     × (allowed 6 ≡ bytes_of false false false false)
-unfolding unusedZero
+unfolding unused_zero
 unused-zero = (refl, refl, refl, refl, refl, refl)

@@ -8,8 +8,8 @@ use Rattle.table.specs.declared.State.{State}
 use Rattle.table.specs.Rows.{blank}
 use Rattle.pala.specs.Cases.{letter}
 use Rattle.pala.specs.Rules.{line, freshest, agreed, ballot, candidate, descends}
-use Rattle.pala.specs.Steps.{newKept, newTorn}
-use Rattle.pala.proofs.States.{block, table, clocksFrom, state_of}
+use Rattle.pala.specs.Steps.{new_kept, new_torn}
+use Rattle.pala.proofs.States.{block, table, clocks_from, state_of}
 
 -- a block of an epoch on a parent's place with all its votes, and one with a vote too few
 abbrev voted : ℕ → ℕ → Block
@@ -38,7 +38,7 @@ descent = (refl, refl, refl)
 
 -- "the greatest c such that at least q nodes have a kept clock of c or more": of the clocks of four nodes the third highest
 abbrev agree : ℕ → ℕ → ℕ → ℕ → ℕ
-agree a b c d = agreed 4 (clocksFrom (record { 0 = a } ∷ record { 0 = b } ∷ record { 0 = c } ∷ record { 0 = d } ∷ []))
+agree a b c d = agreed 4 (clocks_from (record { 0 = a } ∷ record { 0 = b } ∷ record { 0 = c } ∷ record { 0 = d } ∷ []))
 
 clocks-agree :
     (agree 5 5 5 0 ∷ agree 9 5 5 5 ∷ agree 5 5 5 5 ∷ [] ≡ 5 ∷ 5 ∷ 5 ∷ [])
@@ -75,7 +75,7 @@ abbrev keeping : ℕ → State
 keeping place = state_of 4 0 3 3 place [] (blank ∷ voted 1 0 ∷ voted 2 1 ∷ short 3 0 ∷ []) false
 
 kept-is :
-    (map (λ p. newKept (keeping p)) (0 ∷ 1 ∷ 2 ∷ 3 ∷ []) ≡ 1 ∷ 1 ∷ 2 ∷ 3 ∷ [])
-    × (map (λ p. newTorn (keeping p)) (0 ∷ 1 ∷ 2 ∷ 3 ∷ []) ≡ false ∷ false ∷ false ∷ true ∷ [])
-unfolding newKept newTorn table blank
+    (map (λ p. new_kept (keeping p)) (0 ∷ 1 ∷ 2 ∷ 3 ∷ []) ≡ 1 ∷ 1 ∷ 2 ∷ 3 ∷ [])
+    × (map (λ p. new_torn (keeping p)) (0 ∷ 1 ∷ 2 ∷ 3 ∷ []) ≡ false ∷ false ∷ false ∷ true ∷ [])
+unfolding new_kept new_torn table blank
 kept-is = (refl, refl)

@@ -7,10 +7,10 @@ use lib.ListN.{replicate, set}
 use Rattle.table.specs.declared.Block.{Block}
 use Rattle.table.specs.declared.Epoch.{Epoch}
 use Rattle.table.specs.declared.State.{State}
-use Rattle.table.specs.Rows.{mostNodes, blank}
-use Rattle.pala.specs.Cases.{A, B, C, genesisName, onePayload}
-use Rattle.pala.specs.Counts.{noName, noPayload, topEpoch}
-use Rattle.pala.specs.Shape.{wellShaped}
+use Rattle.table.specs.Rows.{most_nodes, blank}
+use Rattle.pala.specs.Cases.{A, B, C, genesis_name, one_payload}
+use Rattle.pala.specs.Counts.{no_name, no_payload, top_epoch}
+use Rattle.pala.specs.Shape.{well_shaped}
 use Rattle.pala.proofs.States.{block, table, state_of, filled}
 
 -- A (epoch 1, on genesis) and B (epoch 2, on A), each with the votes of 0 to 3
@@ -35,15 +35,15 @@ abbrev unused : Block → State
 unused c = state_of 4 0 3 2 0 [] (two ++ (c ∷ [])) false
 
 -- a row that is blank but for one field
-abbrev strayRow : List ℕ → List ℕ → List Bool → ℕ → ℕ → Block
-strayRow name payload voters epoch parent =
+abbrev stray_row : List ℕ → List ℕ → List Bool → ℕ → ℕ → Block
+stray_row name payload voters epoch parent =
     record { name = name; payload = payload; voters = voters; epoch = record { 0 = epoch }; parent = record { 0 = parent } }
 
-abbrev noVoter : List Bool
-noVoter = replicate mostNodes false
+abbrev no_voter : List Bool
+no_voter = replicate most_nodes false
 
-inOrder : List State
-inOrder =
+in_order : List State
+in_order =
     -- n, own number, local epoch, kept place, the last clock and voter below n at their bounds
     state_of 1 0 1 0 0 [] [] false
     ∷ state_of 32 31 1 0 0 (replicate 32 (record { 0 = 9 })) [] false
@@ -56,8 +56,8 @@ inOrder =
     ∷ third (block C 4294967294 2 4)
     ∷ []
 
-outOfOrder : List State
-outOfOrder =
+out_of_order : List State
+out_of_order =
     -- "n is 1 to 32, own number below n"
     state_of 0 0 1 0 0 [] [] false
     ∷ state_of 33 0 1 0 0 [] [] false
@@ -65,32 +65,32 @@ outOfOrder =
     -- "at most 64 blocks"
     ∷ filled 64 65
     -- "no block name all zero and no two alike"
-    ∷ third (block genesisName 3 2 4)
+    ∷ third (block genesis_name 3 2 4)
     ∷ third (block A 3 2 4)
     -- "each block's parent at a lower place and of a smaller epoch"
     ∷ state_of 4 0 3 2 0 [] (blank ∷ block A 2 2 4 ∷ block B 1 0 4 ∷ []) false
     ∷ third (block C 3 3 4)
     ∷ third (block C 2 2 4)
     -- "each block epoch in range"
-    ∷ third (block C topEpoch 2 4)
+    ∷ third (block C top_epoch 2 4)
     ∷ third (block C 0 0 4)
     -- "voters only below n"
     ∷ third (block C 3 2 5)
-    ∷ third (strayRow C noPayload (set noVoter 31 true) 3 2)
+    ∷ third (stray_row C no_payload (set no_voter 31 true) 3 2)
     -- "the kept final place no higher than the number of blocks"
     ∷ state_of 4 0 3 2 3 [] two false
     -- "local epoch at least 1"
     ∷ state_of 4 0 0 2 0 [] two false
     -- "unused table places .. all zero"
     ∷ unused (block C 3 2 4)
-    ∷ unused (strayRow C noPayload noVoter 0 0)
-    ∷ unused (strayRow noName onePayload noVoter 0 0)
-    ∷ unused (strayRow noName noPayload (set noVoter 3 true) 0 0)
-    ∷ unused (strayRow noName noPayload noVoter 3 0)
-    ∷ unused (strayRow noName noPayload noVoter 0 1)
+    ∷ unused (stray_row C no_payload no_voter 0 0)
+    ∷ unused (stray_row no_name one_payload no_voter 0 0)
+    ∷ unused (stray_row no_name no_payload (set no_voter 3 true) 0 0)
+    ∷ unused (stray_row no_name no_payload no_voter 3 0)
+    ∷ unused (stray_row no_name no_payload no_voter 0 1)
     -- the last place, and the genesis's
     ∷ filled 64 63
-    ∷ state_of 4 0 3 0 0 [] (strayRow noName onePayload noVoter 0 0 ∷ []) false
+    ∷ state_of 4 0 3 0 0 [] (stray_row no_name one_payload no_voter 0 0 ∷ []) false
     -- "the clocks of numbers at or above n all zero"
     ∷ state_of 4 0 3 2 0 (replicate 5 (record { 0 = 9 })) two false
     ∷ state_of 4 0 3 2 0 (set (replicate 32 (record { 0 = 0 })) 31 (record { 0 = 9 })) two false
@@ -98,6 +98,6 @@ outOfOrder =
 
 -- the first are well shaped and the others not
 shapes-hold :
-    (map wellShaped inOrder ≡ replicate 6 true) × (map wellShaped outOfOrder ≡ replicate 25 false)
-unfolding wellShaped inOrder outOfOrder table blank filled
+    (map well_shaped in_order ≡ replicate 6 true) × (map well_shaped out_of_order ≡ replicate 25 false)
+unfolding well_shaped in_order out_of_order table blank filled
 shapes-hold = (refl, refl)

@@ -6,32 +6,32 @@ use lib.ListN.{take, replicate}
 use Rattle.table.specs.declared.Block.{Block}
 use Rattle.table.specs.declared.Epoch.{Epoch}
 use Rattle.table.specs.declared.State.{State}
-use Rattle.table.specs.Rows.{capacity, mostNodes, blank}
+use Rattle.table.specs.Rows.{capacity, most_nodes, blank}
 use Rattle.pala.specs.Cases.{letter}
-use Rattle.pala.specs.Counts.{noName, noPayload}
-use Rattle.pala.specs.Record.{message, proposeNow, castNow, minuteUp}
+use Rattle.pala.specs.Counts.{no_name, no_payload}
+use Rattle.pala.specs.Record.{message, propose_now, cast_now, minute_up}
 
 -- propose now, cast a vote now and the minute is up, with the sender's number
 abbrev pub propose : ℕ → List ℕ → List ℕ
-propose sender name = message proposeNow sender 0 name noName noPayload
+propose sender name = message propose_now sender 0 name no_name no_payload
 
-abbrev pub castBy : ℕ → List ℕ
-castBy sender = message castNow sender 0 noName noName noPayload
+abbrev pub cast_by : ℕ → List ℕ
+cast_by sender = message cast_now sender 0 no_name no_name no_payload
 
 abbrev pub minute : ℕ → List ℕ
-minute sender = message minuteUp sender 0 noName noName noPayload
+minute sender = message minute_up sender 0 no_name no_name no_payload
 
 -- voters 0 to k - 1
-abbrev pub firstVoters : ℕ → List Bool
-firstVoters k = take mostNodes (replicate k true ++ replicate mostNodes false)
+abbrev pub first_voters : ℕ → List Bool
+first_voters k = take most_nodes (replicate k true ++ replicate most_nodes false)
 
 -- a block: its name, epoch, the place of its parent, and how many of the first numbers voted for it
 abbrev pub block : List ℕ → ℕ → ℕ → ℕ → Block
 block name epoch parent voters =
     record {
       name = name;
-      payload = noPayload;
-      voters = firstVoters voters;
+      payload = no_payload;
+      voters = first_voters voters;
       epoch = record { 0 = epoch };
       parent = record { 0 = parent };
     }
@@ -42,15 +42,15 @@ unfolding blank
 table first = take (suc capacity) (first ++ replicate (suc capacity) blank)
 
 -- the clocks kept from the first numbers, the others zero
-abbrev pub clocksFrom : List Epoch → List Epoch
-clocksFrom first = take mostNodes (first ++ replicate mostNodes (record { 0 = 0 }))
+abbrev pub clocks_from : List Epoch → List Epoch
+clocks_from first = take most_nodes (first ++ replicate most_nodes (record { 0 = 0 }))
 
 -- a state that hasn't voted or proposed, its bar 0
 abbrev pub state_of : ℕ → ℕ → ℕ → ℕ → ℕ → List Epoch → List Block → Bool → State
 state_of n own local held kept clocks first torn =
     record {
       blocks = table first;
-      clocks = clocksFrom clocks;
+      clocks = clocks_from clocks;
       n = n;
       own = record { 0 = own };
       local = record { 0 = local };
@@ -80,11 +80,11 @@ noted s voted proposed =
     }
 
 -- k blocks on the genesis, with epochs 1 to k and the letters 1 to k, no voters
-unfoldable pub blocksTo : ℕ → List Block
-blocksTo zero = []
-blocksTo (suc k) = blocksTo k ++ (block (letter (suc k)) (suc k) 0 0 ∷ [])
+unfoldable pub blocks_to : ℕ → List Block
+blocks_to zero = []
+blocks_to (suc k) = blocks_to k ++ (block (letter (suc k)) (suc k) 0 0 ∷ [])
 
 -- node 0 of 4 in epoch 4, which is its turn, with k blocks at places 1 to 64 and `held` as their number
 unfoldable pub filled : ℕ → ℕ → State
-unfolding blocksTo table blank
-filled k held = state_of 4 0 4 held 0 [] (blank ∷ blocksTo k) false
+unfolding blocks_to table blank
+filled k held = state_of 4 0 4 held 0 [] (blank ∷ blocks_to k) false

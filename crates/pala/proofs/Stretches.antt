@@ -8,7 +8,7 @@ use native.Mathlib.Omega.{arith}
 use lib.ListN.{length, take, drop, length-append, length-drop, drop_of_length-le}
 use lib.Seq.{take-append-le, drop-append-le, drop-drop, take_all}
 use Rattle.table.specs.declared.State.{State}
-use Rattle.pala.specs.Record.{recordBytes}
+use Rattle.pala.specs.Record.{record_bytes}
 use Rattle.pala.specs.Run.{cut_in, cut, stretches, played, lent}
 use Rattle.pala.specs.Step.{step}
 use Rattle.pala.specs.Lines.{line_of, lines}
@@ -60,14 +60,14 @@ module _ (size : ℕ) (some : 1 ≤ size) where
   abbrev Counts : ℕ → ℕ → Type 0
   Counts long many = (long ≤ many * size) × (many * size < long + size) × (long ≡ 0 → many * size ≡ 0)
 
-  cutIn-count : (k : ℕ) (bytes : List ℕ) → length bytes ≤ k → Counts (length bytes) (length (cut_in size k bytes))
+  cut_in-count : (k : ℕ) (bytes : List ℕ) → length bytes ≤ k → Counts (length bytes) (length (cut_in size k bytes))
   unfolding cut_in
-  cutIn-count zero [] h = (omega arith, omega arith, λ _. omega arith)
-  cutIn-count zero (b ∷ bytes) h = absurd (omega arith)
-  cutIn-count (suc k) [] h = (omega arith, omega arith, λ _. omega arith)
-  cutIn-count (suc k) (b ∷ bytes) h =
+  cut_in-count zero [] h = (omega arith, omega arith, λ _. omega arith)
+  cut_in-count zero (b ∷ bytes) h = absurd (omega arith)
+  cut_in-count (suc k) [] h = (omega arith, omega arith, λ _. omega arith)
+  cut_in-count (suc k) (b ∷ bytes) h =
       let left : length (drop size (b ∷ bytes)) ≡ suc (length bytes) - size = length-drop size (b ∷ bytes) in
-      let rest = cutIn-count k (drop size (b ∷ bytes)) (omega arith) in
+      let rest = cut_in-count k (drop size (b ∷ bytes)) (omega arith) in
       let more = suc-mul (length (cut_in size k (drop size (b ∷ bytes)))) size in (
         omega (arith, rest.0, more),
         elim (dec_le (suc (length bytes)) size) [ yes l ↦ omega (arith, rest.2 (omega arith), more) | no l ↦ omega (arith, rest.1, more) ],
@@ -76,7 +76,7 @@ module _ (size : ℕ) (some : 1 ≤ size) where
 
   pub cut-count : (bytes : List ℕ) → (length bytes ≤ length (cut size bytes) * size) × (length (cut size bytes) * size < length bytes + size)
   unfolding cut
-  cut-count bytes = let counted = cutIn-count (length bytes) bytes (omega arith) in (counted.0, counted.1)
+  cut-count bytes = let counted = cut_in-count (length bytes) bytes (omega arith) in (counted.0, counted.1)
 
 -- a stretch is of that size, or what is left where that is less
 part_cut : (d : List ℕ) (whole size : ℕ) → size ≡ min (length d) whole → (take whole d ≡ take size d) × (drop whole d ≡ drop size d)
@@ -112,34 +112,34 @@ next-cut whole some input from size l e =
 
 pub stretches-none : stretches [] ≡ []
 unfolding stretches
-stretches-none = cut-none recordBytes (omega arith)
+stretches-none = cut-none record_bytes (omega arith)
 
 -- whole records, and then the rest
 pub stretches-append :
-    (k : ℕ) (xs ys : List ℕ) → length xs ≡ recordBytes * k → stretches (xs ++ ys) ≡ stretches xs ++ stretches ys
+    (k : ℕ) (xs ys : List ℕ) → length xs ≡ record_bytes * k → stretches (xs ++ ys) ≡ stretches xs ++ stretches ys
 unfolding stretches
-stretches-append k xs ys h = cut-append recordBytes (omega arith) k xs ys (omega (arith, h))
+stretches-append k xs ys h = cut-append record_bytes (omega arith) k xs ys (omega (arith, h))
 
-pub stretches-count : (bytes : List ℕ) → length (stretches bytes) ≡ (length bytes + 95) / recordBytes
+pub stretches-count : (bytes : List ℕ) → length (stretches bytes) ≡ (length bytes + 95) / record_bytes
 unfolding stretches
-stretches-count bytes = let counted = cut-count recordBytes (omega arith) bytes in omega (arith, counted.0, counted.1)
+stretches-count bytes = let counted = cut-count record_bytes (omega arith) bytes in omega (arith, counted.0, counted.1)
 
 pub next-stretch :
-    (input : List ℕ) (from size : ℕ) → from < length input → size ≡ min (length input - from) recordBytes
+    (input : List ℕ) (from size : ℕ) → from < length input → size ≡ min (length input - from) record_bytes
     → stretches (drop from input) ≡ part input from size ∷ stretches (drop (from + size) input)
 unfolding stretches
-next-stretch input from size l e = next-cut recordBytes (omega arith) input from size l e
+next-stretch input from size l e = next-cut record_bytes (omega arith) input from size l e
 
 -- ---- one record
 
 -- playing on from after a record is playing on from before it
 pub played-next :
-    (records : List ℕ) (from : ℕ) (t u : State) → from + recordBytes ≤ length records → u ≡ (step t (part records from recordBytes) lent).state
-    → played u (stretches (drop (from + recordBytes) records)) ≡ played t (stretches (drop from records))
+    (records : List ℕ) (from : ℕ) (t u : State) → from + record_bytes ≤ length records → u ≡ (step t (part records from record_bytes) lent).state
+    → played u (stretches (drop (from + record_bytes) records)) ≡ played t (stretches (drop from records))
 unfolding played
 played-next records from t u l e =
-    ap (λ (x : State). played x (stretches (drop (from + recordBytes) records))) e
-    ∙ ap (λ (x : List (List ℕ)). played t x) (sym (next-stretch records from recordBytes (omega arith) (omega arith)))
+    ap (λ (x : State). played x (stretches (drop (from + record_bytes) records))) e
+    ∙ ap (λ (x : List (List ℕ)). played t x) (sym (next-stretch records from record_bytes (omega arith) (omega arith)))
 
 -- past the end nothing is left to play
 pub played-end : (records : List ℕ) (from : ℕ) (t : State) → length records ≤ from → t ≡ played t (stretches (drop from records))

@@ -5,11 +5,11 @@ use Rattle.table.specs.declared.Block.{Block}
 use Rattle.table.specs.declared.State.{State}
 use Rattle.table.specs.Scan.{pick}
 use Rattle.table.specs.Bytes.{zeros}
-use Rattle.table.specs.Rows.{rows, size, at, find, hasVoter}
-use Rattle.pala.specs.Counts.{topEpoch, clockOf}
-use Rattle.pala.specs.Record.{recordBytes, senderOf, epochOf, name_of, parentNameOf, is, knownKind, heard, unusedZero, proposalHeard, voteHeard, clockHeard, proposeNow, castNow, minuteUp}
-use Rattle.pala.specs.Rules.{epochAt, freshest, ballot}
-use Rattle.pala.specs.Shape.{wellShaped}
+use Rattle.table.specs.Rows.{rows, size, at, find, has_voter}
+use Rattle.pala.specs.Counts.{top_epoch, clock_of}
+use Rattle.pala.specs.Record.{record_bytes, sender_of, epoch_of, name_of, parent_name_of, is, known_kind, heard, unused_zero, proposal_heard, vote_heard, clock_heard, propose_now, cast_now, minute_up}
+use Rattle.pala.specs.Rules.{epoch_at, freshest, ballot}
+use Rattle.pala.specs.Shape.{well_shaped}
 
 -- the number of each answer
 unfoldable pub number : Answer → ℕ
@@ -36,92 +36,92 @@ unfolding number
 taken a = eqb (number a) 0
 
 -- "record or out buffer isn't 96 bytes"
-unfoldable pub badLength : List ℕ → List ℕ → Bool
-badLength r out = not (eqb (length r) recordBytes && eqb (length out) recordBytes)
+unfoldable pub bad_length : List ℕ → List ℕ → Bool
+bad_length r out = not (eqb (length r) record_bytes && eqb (length out) record_bytes)
 
 -- "sender at or above n; own number for kinds 1 to 3; another's for 4 to 6"
-unfoldable pub badSender : State → List ℕ → Bool
+unfoldable pub bad_sender : State → List ℕ → Bool
 unfolding pick heard
-badSender s r = leb s.n (senderOf r) || pick (heard r) (eqb (senderOf r) s.own.0) (not (eqb (senderOf r) s.own.0))
+bad_sender s r = leb s.n (sender_of r) || pick (heard r) (eqb (sender_of r) s.own.0) (not (eqb (sender_of r) s.own.0))
 
 -- "kind 1: epoch 0 or 4,294,967,295. Kind 3: epoch 0. Kinds 4, 6: local epoch is 4,294,967,295"
-unfoldable pub badEpoch : State → List ℕ → Bool
-unfolding epochOf
-badEpoch s r =
-    is proposalHeard r && (eqb (epochOf r) 0 || leb topEpoch (epochOf r))
-    || is clockHeard r && eqb (epochOf r) 0
-    || (is proposeNow r || is minuteUp r) && leb topEpoch s.local.0
+unfoldable pub bad_epoch : State → List ℕ → Bool
+unfolding epoch_of
+bad_epoch s r =
+    is proposal_heard r && (eqb (epoch_of r) 0 || leb top_epoch (epoch_of r))
+    || is clock_heard r && eqb (epoch_of r) 0
+    || (is propose_now r || is minute_up r) && leb top_epoch s.local.0
 
 -- "kinds 1, 4: name all zero or already in the table"
-unfoldable pub badName : List Block → List ℕ → Bool
+unfoldable pub bad_name : List Block → List ℕ → Bool
 unfolding zeros name_of find
-badName t r = (is proposalHeard r || is proposeNow r) && (zeros (name_of r) || ltb (find t (name_of r)) (size t))
+bad_name t r = (is proposal_heard r || is propose_now r) && (zeros (name_of r) || ltb (find t (name_of r)) (size t))
 
 -- "kind 1: parent neither genesis nor in the table. Kind 2: name not in the table (genesis included)"
 unfoldable pub unknown : List Block → List ℕ → Bool
-unfolding parentNameOf name_of find
+unfolding parent_name_of name_of find
 unknown t r =
-    is proposalHeard r && leb (size t) (find t (parentNameOf r))
-    || is voteHeard r && (eqb (find t (name_of r)) 0 || leb (size t) (find t (name_of r)))
+    is proposal_heard r && leb (size t) (find t (parent_name_of r))
+    || is vote_heard r && (eqb (find t (name_of r)) 0 || leb (size t) (find t (name_of r)))
 
 -- "kind 1: epoch not above the parent's. Kind 4: local epoch not above the freshest block's"
 unfoldable pub bad_order : State → List ℕ → Bool
-unfolding rows epochOf epochAt find parentNameOf freshest
+unfolding rows epoch_of epoch_at find parent_name_of freshest
 bad_order s r =
-    is proposalHeard r && leb (epochOf r) (epochAt (rows s) (find (rows s) (parentNameOf r)))
-    || is proposeNow r && leb s.local.0 (epochAt (rows s) (freshest s.n (rows s)))
+    is proposal_heard r && leb (epoch_of r) (epoch_at (rows s) (find (rows s) (parent_name_of r)))
+    || is propose_now r && leb s.local.0 (epoch_at (rows s) (freshest s.n (rows s)))
 
 -- "proposer of epoch e is e mod n"
 unfoldable pub proposer : ℕ → ℕ → ℕ
 proposer n e = e % n
 
 -- "Kind 1: sender isn't it. Kind 4: own number isn't it for the local epoch"
-unfoldable pub badTurn : State → List ℕ → Bool
-unfolding proposer epochOf
-badTurn s r =
-    is proposalHeard r && not (eqb (senderOf r) (proposer s.n (epochOf r)))
-    || is proposeNow r && not (eqb s.own.0 (proposer s.n s.local.0))
+unfoldable pub bad_turn : State → List ℕ → Bool
+unfolding proposer epoch_of
+bad_turn s r =
+    is proposal_heard r && not (eqb (sender_of r) (proposer s.n (epoch_of r)))
+    || is propose_now r && not (eqb s.own.0 (proposer s.n s.local.0))
 
 -- "kind 2: vote already counted. Kind 3: epoch not above the clock kept for that sender. Kind 4: already proposed in this
 -- local epoch. Kind 6: own kept clock is local + 1 or more"
 unfoldable pub repeats : State → List ℕ → Bool
-unfolding rows hasVoter at find name_of epochOf clockOf
+unfolding rows has_voter at find name_of epoch_of clock_of
 repeats s r =
-    is voteHeard r && hasVoter (at (rows s) (find (rows s) (name_of r))) (senderOf r)
-    || is clockHeard r && leb (epochOf r) (clockOf s.clocks (senderOf r))
-    || is proposeNow r && eqb s.proposed.0 s.local.0
-    || is minuteUp r && leb (s.local.0 + 1) (clockOf s.clocks s.own.0)
+    is vote_heard r && has_voter (at (rows s) (find (rows s) (name_of r))) (sender_of r)
+    || is clock_heard r && leb (epoch_of r) (clock_of s.clocks (sender_of r))
+    || is propose_now r && eqb s.proposed.0 s.local.0
+    || is minute_up r && leb (s.local.0 + 1) (clock_of s.clocks s.own.0)
 
 -- "kind 5: no block may be voted for"
 unfoldable pub nothing : State → List ℕ → Bool
 unfolding rows ballot
 nothing s r =
-    is castNow r && leb (size (rows s)) (ballot s.n (rows s) s.local.0 s.bar.0 s.voted.0)
+    is cast_now r && leb (size (rows s)) (ballot s.n (rows s) s.local.0 s.bar.0 s.voted.0)
 
 -- "kinds 1, 4: 64 blocks held", where `room` tells for how many blocks held there is room for one more
 unfoldable pub full : (ℕ → Bool) → State → List ℕ → Bool
-full room s r = (is proposalHeard r || is proposeNow r) && not (room s.count)
+full room s r = (is proposal_heard r || is propose_now r) && not (room s.count)
 
 -- "Otherwise the answer is the lowest number that applies"
-unfoldable pub lowestOf : List (Bool × Answer) → Answer
+unfoldable pub lowest_of : List (Bool × Answer) → Answer
 unfolding pick
-lowestOf [] = Answer.Taken
-lowestOf (row ∷ more) = pick row.0 row.1 (lowestOf more)
+lowest_of [] = Answer.Taken
+lowest_of (row ∷ more) = pick row.0 row.1 (lowest_of more)
 
 -- the rows from 2 on, of a state that is well shaped
-unfoldable pub shapedRows : (ℕ → Bool) → State → List ℕ → List ℕ → List (Bool × Answer)
-unfolding badLength knownKind unusedZero badSender badEpoch badName unknown bad_order badTurn repeats nothing full rows
-shapedRows room s r out =
+unfoldable pub shaped_rows : (ℕ → Bool) → State → List ℕ → List ℕ → List (Bool × Answer)
+unfolding bad_length known_kind unused_zero bad_sender bad_epoch bad_name unknown bad_order bad_turn repeats nothing full rows
+shaped_rows room s r out =
     (s.torn, Answer.Torn)
-    ∷ (badLength r out, Answer.Length)
-    ∷ (not (knownKind r), Answer.Kind)
-    ∷ (not (unusedZero r), Answer.Filler)
-    ∷ (badSender s r, Answer.Sender)
-    ∷ (badEpoch s r, Answer.Epoch)
-    ∷ (badName (rows s) r, Answer.Name)
+    ∷ (bad_length r out, Answer.Length)
+    ∷ (not (known_kind r), Answer.Kind)
+    ∷ (not (unused_zero r), Answer.Filler)
+    ∷ (bad_sender s r, Answer.Sender)
+    ∷ (bad_epoch s r, Answer.Epoch)
+    ∷ (bad_name (rows s) r, Answer.Name)
     ∷ (unknown (rows s) r, Answer.Unknown)
     ∷ (bad_order s r, Answer.Order)
-    ∷ (badTurn s r, Answer.Turn)
+    ∷ (bad_turn s r, Answer.Turn)
     ∷ (repeats s r, Answer.Repeat)
     ∷ (nothing s r, Answer.Nothing)
     ∷ (full room s r, Answer.Full)
@@ -129,5 +129,5 @@ shapedRows room s r out =
 
 -- all fourteen rows: "1 State: the state isn't well shaped", then the others
 unfoldable pub all_rows : (ℕ → Bool) → State → List ℕ → List ℕ → List (Bool × Answer)
-unfolding wellShaped shapedRows
-all_rows room s r out = (not (wellShaped s), Answer.State) ∷ shapedRows room s r out
+unfolding well_shaped shaped_rows
+all_rows room s r out = (not (well_shaped s), Answer.State) ∷ shaped_rows room s r out

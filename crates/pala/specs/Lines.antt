@@ -3,43 +3,43 @@ use Rattle.std.specs.Prelude.{ℕ, zero, suc, ◌+◌, ◌/◌, ◌%◌, true, f
 use Rattle.table.specs.declared.Answer.{Answer}
 use Rattle.table.specs.declared.State.{State}
 use Rattle.pala.specs.Answers.{number, taken}
-use Rattle.pala.specs.Lists.{finalNames}
+use Rattle.pala.specs.Lists.{final_names}
 use Rattle.pala.specs.Run.{stretches, lent}
 use Rattle.pala.specs.Step.{step, start}
 
 -- a number in decimal digits; it has no more digits than its own value counts, and one at least
-unfoldable pub digitsIn : ℕ → ℕ → List ℕ
-digitsIn zero k = (48 + k % 10) ∷ []
-digitsIn (suc d) k = elim (ltb k 10) [ true ↦ (48 + k) ∷ [] | false ↦ digitsIn d (k / 10) ++ ((48 + k % 10) ∷ []) ]
+unfoldable pub digits_in : ℕ → ℕ → List ℕ
+digits_in zero k = (48 + k % 10) ∷ []
+digits_in (suc d) k = elim (ltb k 10) [ true ↦ (48 + k) ∷ [] | false ↦ digits_in d (k / 10) ++ ((48 + k % 10) ∷ []) ]
 
 unfoldable pub digits : ℕ → List ℕ
-unfolding digitsIn
-digits k = digitsIn k k
+unfolding digits_in
+digits k = digits_in k k
 
 -- a space, a new line, "end", "setup"
 abbrev pub space : ℕ
 space = 32
 
-abbrev pub newLine : ℕ
-newLine = 10
+abbrev pub new_line : ℕ
+new_line = 10
 
 abbrev pub end_word : List ℕ
 end_word = 101 ∷ 110 ∷ 100 ∷ []
 
-abbrev pub setupWord : List ℕ
-setupWord = 115 ∷ 101 ∷ 116 ∷ 117 ∷ 112 ∷ []
+abbrev pub setup_word : List ℕ
+setup_word = 115 ∷ 101 ∷ 116 ∷ 117 ∷ 112 ∷ []
 
 -- numbers with a space between them, and a new line
 unfoldable pub spaced : List ℕ → List ℕ
 unfolding digits
-spaced [] = newLine ∷ []
-spaced (x ∷ []) = digits x ++ (newLine ∷ [])
+spaced [] = new_line ∷ []
+spaced (x ∷ []) = digits x ++ (new_line ∷ [])
 spaced (x ∷ y ∷ l) = digits x ++ (space ∷ spaced (y ∷ l))
 
 -- "Per record a line: record number, answer, local epoch, bar, length of the final list."
 unfoldable pub line_of : ℕ → Answer → State → List ℕ
-unfolding spaced number finalNames
-line_of k a s = spaced (k ∷ number a ∷ s.local.0 ∷ s.bar.0 ∷ length (finalNames s) ∷ [])
+unfolding spaced number final_names
+line_of k a s = spaced (k ∷ number a ∷ s.local.0 ∷ s.bar.0 ∷ length (final_names s) ∷ [])
 
 -- the lines of records, of which `before` came earlier
 unfoldable pub lines : State → ℕ → List (List ℕ) → List ℕ
@@ -50,20 +50,20 @@ lines s before (r ∷ more) =
     line_of (suc before) o.answer o.state ++ lines o.state (suc before) more
 
 -- "Last, `end` and the number of lines."
-unfoldable pub endLine : ℕ → List ℕ
+unfoldable pub end_line : ℕ → List ℕ
 unfolding spaced
-endLine k = end_word ++ (space ∷ spaced (k ∷ []))
+end_line k = end_word ++ (space ∷ spaced (k ∷ []))
 
 -- "If the start is refused or under two bytes come: only `setup 15`."
-unfoldable pub setupLine : List ℕ
+unfoldable pub setup_line : List ℕ
 unfolding spaced number
-setupLine = setupWord ++ (space ∷ spaced (number Answer.Setup ∷ []))
+setup_line = setup_word ++ (space ∷ spaced (number Answer.Setup ∷ []))
 
 -- "The program `replay` reads standard input: n, own number, then records."
 unfoldable pub replay : List ℕ → List ℕ
-unfolding lines endLine setupLine start taken stretches
-replay [] = setupLine
-replay (n ∷ []) = setupLine
+unfolding lines end_line setup_line start taken stretches
+replay [] = setup_line
+replay (n ∷ []) = setup_line
 replay (n ∷ own ∷ records) =
     elim (taken (start n own).answer)
-    [ true ↦ lines (start n own).state 0 (stretches records) ++ endLine (length (stretches records)) | false ↦ setupLine ]
+    [ true ↦ lines (start n own).state 0 (stretches records) ++ end_line (length (stretches records)) | false ↦ setup_line ]

@@ -3,11 +3,11 @@ use Rattle.std.specs.Prelude.{ℕ, ◌*◌, ◌≤◌, ◌<◌, ◌≡◌, ◌�
 use Rattle.table.specs.declared.Block.{Block}
 use Rattle.table.specs.declared.State.{State}
 use Rattle.table.specs.Scan.{pick, count}
-use Rattle.table.specs.Rows.{mostNodes, rows, size, at, hasVoter}
+use Rattle.table.specs.Rows.{most_nodes, rows, size, at, has_voter}
 use Rattle.pala.specs.Answers.{number}
-use Rattle.pala.specs.Record.{kind_of, senderOf, name_of, voteHeard, castNow}
-use Rattle.pala.specs.Rules.{epochAt, parent_of}
-use Rattle.pala.specs.Lists.{joined, finalNames}
+use Rattle.pala.specs.Record.{kind_of, sender_of, name_of, vote_heard, cast_now}
+use Rattle.pala.specs.Rules.{epoch_at, parent_of}
+use Rattle.pala.specs.Lists.{joined, final_names}
 use Rattle.pala.specs.Step.{Outcome, step, start}
 
 -- an event: the number of the gateway that is called, the record's bytes and the out buffer's bytes
@@ -21,8 +21,8 @@ abbrev pub Run : Type 0
 Run = List Event
 
 -- event k, counted from 0
-abbrev pub eventAt : Run → ℕ → Event
-eventAt run k = get_or run k (record { to = 0; bytes = []; buffer = [] })
+abbrev pub event_at : Run → ℕ → Event
+event_at run k = get_or run k (record { to = 0; bytes = []; buffer = [] })
 
 -- what an event makes of the state of gateway i: nothing, if another gateway is called
 unfoldable pub after : ℕ → State → Event → State
@@ -36,19 +36,19 @@ follow i s [] = s
 follow i s (e ∷ more) = follow i (after i s e) more
 
 -- ".. of gateways started fresh with the same number of nodes, each under a number no other has": gateway i's state at a moment
-unfoldable pub stateAt : ℕ → Run → ℕ → ℕ → State
+unfoldable pub state_at : ℕ → Run → ℕ → ℕ → State
 unfolding follow start
-stateAt n run m i = follow i (start n i).state (take m run)
+state_at n run m i = follow i (start n i).state (take m run)
 
 -- the table of gateway i at a moment
 unfoldable pub table_at : ℕ → Run → ℕ → ℕ → List Block
-unfolding rows stateAt
-table_at n run m i = rows (stateAt n run m i)
+unfolding rows state_at
+table_at n run m i = rows (state_at n run m i)
 
 -- what event k handed back
-unfoldable pub outcomeAt : ℕ → Run → ℕ → Outcome
-unfolding step stateAt
-outcomeAt n run k = step (stateAt n run k (eventAt run k).to) (eventAt run k).bytes (eventAt run k).buffer
+unfoldable pub outcome_at : ℕ → Run → ℕ → Outcome
+unfolding step state_at
+outcome_at n run k = step (state_at n run k (event_at run k).to) (event_at run k).bytes (event_at run k).buffer
 
 -- an honest number; of the other numbers below n, faulty or unused, nothing is asked
 abbrev pub Honest : ℕ → (ℕ → Bool) → ℕ → Type 0
@@ -60,12 +60,12 @@ pub record Cast (n : ℕ) (run : Run) (m i : ℕ) (name : List ℕ) : Type 0 whe
   pub event : ℕ
   pub before : event < m
   pub happened : event < length run
-  pub its : (eventAt run event).to ≡ i
-  pub kind : kind_of (eventAt run event).bytes ≡ castNow
-  pub answered : number (outcomeAt n run event).answer ≡ 0
-  pub sentKind : kind_of (outcomeAt n run event).out ≡ voteHeard
-  pub sentNumber : senderOf (outcomeAt n run event).out ≡ i
-  pub sentName : name_of (outcomeAt n run event).out ≡ name
+  pub its : (event_at run event).to ≡ i
+  pub kind : kind_of (event_at run event).bytes ≡ cast_now
+  pub answered : number (outcome_at n run event).answer ≡ 0
+  pub sent_kind : kind_of (outcome_at n run event).out ≡ vote_heard
+  pub sent_number : sender_of (outcome_at n run event).out ≡ i
+  pub sent_name : name_of (outcome_at n run event).out ≡ name
 
 -- a place that holds a block, the genesis aside
 abbrev pub Held : List Block → ℕ → Type 0
@@ -75,7 +75,7 @@ Held t p = (1 ≤ p) × (p < size t)
 abbrev pub NoForgedVote : ℕ → (ℕ → Bool) → Run → Type 0
 NoForgedVote n honest run =
     (m i p j : ℕ) → Honest n honest i → Honest n honest j → Held (table_at n run m i) p
-    → hasVoter (at (table_at n run m i) p) j ≡ true → Cast n run m j (at (table_at n run m i) p).name
+    → has_voter (at (table_at n run m i) p) j ≡ true → Cast n run m j (at (table_at n run m i) p).name
 
 -- what a name stands for: an epoch and the parent's name. Not the payload: the premise is weaker so, and the theorem stronger
 abbrev pub Book : Type 0
@@ -83,7 +83,7 @@ Book = List ℕ → record { epoch : ℕ; parent : List ℕ }
 
 -- a block is the one that the book has under its name
 pub record Fits (book : Book) (t : List Block) (p : ℕ) : Type 0 where
-  pub epoch : epochAt t p ≡ (book (at t p).name).epoch
+  pub epoch : epoch_at t p ≡ (book (at t p).name).epoch
   pub parent : (at t (parent_of t p)).name ≡ (book (at t p).name).parent
 
 -- every block in every honest table, at every moment, is the book's
@@ -99,9 +99,9 @@ FewFaulty n honest = 3 * count n (λ i. not (honest i)) < n
 pub record Premises (n : ℕ) (honest : ℕ → Bool) (run : Run) : Type 0 where
   -- n is what `start` accepts: 1 to 32
   pub some : 1 ≤ n
-  pub most : n ≤ mostNodes
+  pub most : n ≤ most_nodes
   -- "Let the faulty numbers, which send what they like, and the unused ones, which count as faulty, be together fewer than a third."
-  pub fewFaulty : FewFaulty n honest
+  pub few_faulty : FewFaulty n honest
   -- "Let no vote be counted under an honest gateway's number that it had not cast, .."
   pub cast : NoForgedVote n honest run
   -- ".. and let one block name stand for one block everywhere."
@@ -109,9 +109,9 @@ pub record Premises (n : ℕ) (honest : ℕ → Bool) (run : Run) : Type 0 where
   pub fits : OneBlockOneName n honest run book
 
 -- the final chain that gateway i shows at a moment: what the final-list function writes, name after name
-unfoldable pub shownAt : ℕ → Run → ℕ → ℕ → List ℕ
-unfolding joined finalNames stateAt
-shownAt n run m i = joined (finalNames (stateAt n run m i))
+unfoldable pub shown_at : ℕ → Run → ℕ → ℕ → List ℕ
+unfolding joined final_names state_at
+shown_at n run m i = joined (final_names (state_at n run m i))
 
 -- one list begins the other
 abbrev pub Begins : List ℕ → List ℕ → Type 0
@@ -124,10 +124,10 @@ OneBegins a b = Begins a b ⊎ Begins b a
 abbrev pub Safe : Type 0
 Safe =
     (n : ℕ) (honest : ℕ → Bool) (run : Run) → Premises n honest run
-    → (i j a b : ℕ) → Honest n honest i → Honest n honest j → OneBegins (shownAt n run a i) (shownAt n run b j)
+    → (i j a b : ℕ) → Honest n honest i → Honest n honest j → OneBegins (shown_at n run a i) (shown_at n run b j)
 
 -- under the same premises no honest gateway is ever torn
 abbrev pub NeverTorn : Type 0
 NeverTorn =
     (n : ℕ) (honest : ℕ → Bool) (run : Run) → Premises n honest run
-    → (m i : ℕ) → Honest n honest i → (stateAt n run m i).torn ≡ false
+    → (m i : ℕ) → Honest n honest i → (state_at n run m i).torn ≡ false

@@ -11,9 +11,9 @@ use lib.Dec.{eqb}
 use lib.ListN.{length, get_or, set, take, drop, length-append, length-drop, drop_of_length-le}
 use lib.Seq.{paste, paste-suc, length-paste, take-paste, take-length, length-take-le, take_all, take-suc, take_at, drop_at, drop-cons}
 use Rattle.table.specs.Bytes.{zeros}
-use Rattle.table.specs.Rows.{nameBytes, payloadBytes}
+use Rattle.table.specs.Rows.{name_bytes, payload_bytes}
 use Rattle.table.proofs.Laws.{same_test, zeros-true}
-use Rattle.pala.specs.Record.{recordBytes, kind_of, senderOf, epochOf, epochField, name_of, parentNameOf, payloadOf, spare, unusedZero, usesEpoch, usesName, usesParent, usesPayload, low_first, message}
+use Rattle.pala.specs.Record.{record_bytes, kind_of, sender_of, epoch_of, epoch_field, name_of, parent_name_of, payload_of, spare, unused_zero, uses_epoch, uses_name, uses_parent, uses_payload, low_first, message}
 use Rattle.record.specs.declared.Fields.{Fields}
 
 -- ---- zeros
@@ -54,10 +54,10 @@ part-copied d r e at n m l h k w =
 
 -- a buffer of 96 bytes that begins with these, up to an index
 abbrev Begins : List ℕ → ℕ → List ℕ → Type 0
-Begins d at p = (length d ≡ recordBytes) × (take at d ≡ p)
+Begins d at p = (length d ≡ record_bytes) × (take at d ≡ p)
 
 -- what is copied to that index follows them
-begins-more : (d p s e : List ℕ) (at n : ℕ) → Begins d at p → length s ≡ n → at + n ≤ recordBytes → e ≡ paste d at s (length s) → Begins e (at + n) (p ++ s)
+begins-more : (d p s e : List ℕ) (at n : ℕ) → Begins d at p → length s ≡ n → at + n ≤ record_bytes → e ≡ paste d at s (length s) → Begins e (at + n) (p ++ s)
 begins-more d p s e at n b l h w = (
   ap length w ∙ length-paste d at s (length s) (omega arith) (le_refl (length s)) ∙ b.0,
   ap (λ (k : ℕ). take (at + k) e) (sym l)
@@ -68,14 +68,14 @@ begins-more d p s e at n b l h w = (
 )
 
 -- four copies, one after the other, fill the buffer with a message
-pub written : (k s e : ℕ) (d d₁ d₂ d₃ d₄ first name parent payload : List ℕ) → length d ≡ recordBytes → first ≡ k ∷ s ∷ 0 ∷ 0 ∷ low_first e → length name ≡ nameBytes → length parent ≡ nameBytes → length payload ≡ payloadBytes → d₁ ≡ paste d 0 first (length first) → d₂ ≡ paste d₁ 8 name (length name) → d₃ ≡ paste d₂ 40 parent (length parent) → d₄ ≡ paste d₃ 72 payload (length payload) → d₄ ≡ message k s e name parent payload
+pub written : (k s e : ℕ) (d d₁ d₂ d₃ d₄ first name parent payload : List ℕ) → length d ≡ record_bytes → first ≡ k ∷ s ∷ 0 ∷ 0 ∷ low_first e → length name ≡ name_bytes → length parent ≡ name_bytes → length payload ≡ payload_bytes → d₁ ≡ paste d 0 first (length first) → d₂ ≡ paste d₁ 8 name (length name) → d₃ ≡ paste d₂ 40 parent (length parent) → d₄ ≡ paste d₃ 72 payload (length payload) → d₄ ≡ message k s e name parent payload
 unfolding low_first message
 written k s e d d₁ d₂ d₃ d₄ first name parent payload l f ln lp ll w₁ w₂ w₃ w₄ =
     let b₁ = begins-more d [] first d₁ 0 8 (l, refl) (ap length f) (omega arith) w₁ in
-    let b₂ = begins-more d₁ first name d₂ 8 nameBytes b₁ ln (omega arith) w₂ in
-    let b₃ = begins-more d₂ (first ++ name) parent d₃ 40 nameBytes b₂ lp (omega arith) w₃ in
-    let b₄ = begins-more d₃ (first ++ name ++ parent) payload d₄ 72 payloadBytes b₃ ll (omega arith) w₄ in
-    sym (take_all recordBytes d₄ (omega arith)) ∙ b₄.1 ∙ ap (λ (x : List ℕ). x ++ name ++ parent ++ payload) f
+    let b₂ = begins-more d₁ first name d₂ 8 name_bytes b₁ ln (omega arith) w₂ in
+    let b₃ = begins-more d₂ (first ++ name) parent d₃ 40 name_bytes b₂ lp (omega arith) w₃ in
+    let b₄ = begins-more d₃ (first ++ name ++ parent) payload d₄ 72 payload_bytes b₃ ll (omega arith) w₄ in
+    sym (take_all record_bytes d₄ (omega arith)) ∙ b₄.1 ∙ ap (λ (x : List ℕ). x ++ name ++ parent ++ payload) f
 
 -- ---- the fields of a record
 
@@ -84,7 +84,7 @@ pub part-first : (r : List ℕ) (at n : ℕ) → at < length r → take (suc n) 
 part-first r at n h = ap (take (suc n)) (drop-cons r at 0 h)
 
 -- "2 and 3 zero"
-pub spare-zero : (r : List ℕ) → length r ≡ recordBytes → zeros (spare r) ≡ (eqb (get_or r 2 0) 0 && eqb (get_or r 3 0) 0)
+pub spare-zero : (r : List ℕ) → length r ≡ record_bytes → zeros (spare r) ≡ (eqb (get_or r 2 0) 0 && eqb (get_or r 3 0) 0)
 unfolding spare zeros
 spare-zero r h =
     ap zeros (part-first r 2 1 (omega arith) ∙ ap (λ (l : List ℕ). get_or r 2 0 ∷ l) (part-first r 3 0 (omega arith)))
@@ -110,8 +110,8 @@ four-zero a b c d =
     let d0 : d ≡ 0 = omega arith in
     rw (a0, b0, c0, d0))
 
-pub epoch-zero : (r : List ℕ) → length r ≡ recordBytes → zeros (epochField r) ≡ eqb (epochOf r) 0
-unfolding epochField epochOf
+pub epoch-zero : (r : List ℕ) → length r ≡ record_bytes → zeros (epoch_field r) ≡ eqb (epoch_of r) 0
+unfolding epoch_field epoch_of
 epoch-zero r h =
     let e : take 1 (drop 7 r) ≡ get_or r 7 0 ∷ [] = part-first r 7 0 (omega arith) in
     let e6 : take 2 (drop 6 r) ≡ get_or r 6 0 ∷ take 1 (drop 7 r) = part-first r 6 1 (omega arith) in
@@ -121,8 +121,8 @@ epoch-zero r h =
     ∙ four-zero (get_or r 4 0) (get_or r 5 0) (get_or r 6 0) (get_or r 7 0)
 
 -- the epoch, from its four bytes
-pub epoch-read : (r : List ℕ) (a b c d : ℕ) → a ≡ get_or r 4 0 → b ≡ get_or r 5 0 → c ≡ get_or r 6 0 → d ≡ get_or r 7 0 → a + 256 * b + 65536 * c + 16777216 * d ≡ epochOf r
-unfolding epochOf
+pub epoch-read : (r : List ℕ) (a b c d : ℕ) → a ≡ get_or r 4 0 → b ≡ get_or r 5 0 → c ≡ get_or r 6 0 → d ≡ get_or r 7 0 → a + 256 * b + 65536 * c + 16777216 * d ≡ epoch_of r
+unfolding epoch_of
 epoch-read r a b c d ha hb hc hd = omega arith
 
 -- whether a kind uses a field is told by the kind alone
@@ -130,8 +130,8 @@ pub used-or-zero : (uses : List ℕ → Bool) (r l m : List ℕ) (kind : ℕ) (u
 used-or-zero uses r l m kind u t h w k e = cc
 
 -- row 5's test, from what is read of a record
-pub clean_is : (r : List ℕ) (e : ℕ) (u n p b : Bool) → length r ≡ recordBytes → e ≡ epochOf r → u ≡ usesEpoch (kind_of r ∷ []) → n ≡ (usesName (kind_of r ∷ []) || zeros (name_of r)) → p ≡ (usesParent (kind_of r ∷ []) || zeros (parentNameOf r)) → b ≡ (usesPayload (kind_of r ∷ []) || zeros (payloadOf r)) → (eqb (get_or r 2 0) 0 && eqb (get_or r 3 0) 0 && (u || eqb e 0) && n && p && b) ≡ unusedZero r
-unfolding unusedZero usesEpoch usesName usesParent usesPayload
+pub clean_is : (r : List ℕ) (e : ℕ) (u n p b : Bool) → length r ≡ record_bytes → e ≡ epoch_of r → u ≡ uses_epoch (kind_of r ∷ []) → n ≡ (uses_name (kind_of r ∷ []) || zeros (name_of r)) → p ≡ (uses_parent (kind_of r ∷ []) || zeros (parent_name_of r)) → b ≡ (uses_payload (kind_of r ∷ []) || zeros (payload_of r)) → (eqb (get_or r 2 0) 0 && eqb (get_or r 3 0) 0 && (u || eqb e 0) && n && p && b) ≡ unused_zero r
+unfolding unused_zero uses_epoch uses_name uses_parent uses_payload
 clean_is r e u n p b l he hu hn hp hb = rw (he, hu, hn, hp, hb, ← spare-zero r l, ← epoch-zero r l)
 
 -- fields that agree one by one
@@ -142,8 +142,8 @@ fields-same f g n p b e s k c =
 -- ---- the fields of a message
 
 -- the four bytes give the number back
-pub lowFirst-back : (e : ℕ) → e < 2 ^ 32 → e % 256 + 256 * (e / 256 % 256) + 65536 * (e / 65536 % 256) + 16777216 * (e / 16777216 % 256) ≡ e
-lowFirst-back e h =
+pub low_first-back : (e : ℕ) → e < 2 ^ 32 → e % 256 + 256 * (e / 256 % 256) + 65536 * (e / 65536 % 256) + 16777216 * (e / 16777216 % 256) ≡ e
+low_first-back e h =
     let q = div-add-mod e 256 in
     let q₁ = div-add-mod (e / 256) 256 in
     let q₂ = div-add-mod (e / 65536) 256 in
@@ -161,28 +161,28 @@ module _ (k s e : ℕ) (name parent payload : List ℕ) where
   unfolding message
   message-kind = refl
 
-  pub message-sender : senderOf (message k s e name parent payload) ≡ s
+  pub message-sender : sender_of (message k s e name parent payload) ≡ s
   unfolding message
   message-sender = refl
 
-  pub message-epoch : e < 2 ^ 32 → epochOf (message k s e name parent payload) ≡ e
-  unfolding message epochOf low_first
-  message-epoch h = lowFirst-back e h
+  pub message-epoch : e < 2 ^ 32 → epoch_of (message k s e name parent payload) ≡ e
+  unfolding message epoch_of low_first
+  message-epoch h = low_first-back e h
 
-  pub message-length : length name ≡ nameBytes → length parent ≡ nameBytes → length payload ≡ payloadBytes → length (message k s e name parent payload) ≡ recordBytes
+  pub message-length : length name ≡ name_bytes → length parent ≡ name_bytes → length payload ≡ payload_bytes → length (message k s e name parent payload) ≡ record_bytes
   unfolding message low_first
   message-length a b c = omega (arith, length-append (name ++ parent) payload, length-append name parent)
 
-  pub message-name : length name ≡ nameBytes → name_of (message k s e name parent payload) ≡ name
+  pub message-name : length name ≡ name_bytes → name_of (message k s e name parent payload) ≡ name
   unfolding message low_first name_of
-  message-name a = ap (take nameBytes) (append_assoc name parent payload) ∙ take_at name (parent ++ payload) nameBytes a
+  message-name a = ap (take name_bytes) (append_assoc name parent payload) ∙ take_at name (parent ++ payload) name_bytes a
 
-  pub message-parent : length name ≡ nameBytes → length parent ≡ nameBytes → parentNameOf (message k s e name parent payload) ≡ parent
-  unfolding message low_first parentNameOf
-  message-parent a b = part-middle name parent payload nameBytes nameBytes a b
+  pub message-parent : length name ≡ name_bytes → length parent ≡ name_bytes → parent_name_of (message k s e name parent payload) ≡ parent
+  unfolding message low_first parent_name_of
+  message-parent a b = part-middle name parent payload name_bytes name_bytes a b
 
-  pub message-payload : length name ≡ nameBytes → length parent ≡ nameBytes → length payload ≡ payloadBytes → payloadOf (message k s e name parent payload) ≡ payload
-  unfolding message low_first payloadOf
+  pub message-payload : length name ≡ name_bytes → length parent ≡ name_bytes → length payload ≡ payload_bytes → payload_of (message k s e name parent payload) ≡ payload
+  unfolding message low_first payload_of
   message-payload a b c =
-      ap (take payloadBytes) (drop_at (name ++ parent) payload 64 (omega (arith, length-append name parent)))
-      ∙ take_all payloadBytes payload (omega arith)
+      ap (take payload_bytes) (drop_at (name ++ parent) payload 64 (omega (arith, length-append name parent)))
+      ∙ take_all payload_bytes payload (omega arith)

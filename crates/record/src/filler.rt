@@ -2,7 +2,7 @@
 
 ghost use Rattle.std.specs.Prelude.{◌≡◌, ◌||◌, [], ◌∷◌};
 ghost use Rattle.table.specs.Bytes.{zeros};
-ghost use Rattle.pala.specs.Record.{usesEpoch, usesName, usesParent, usesPayload};
+ghost use Rattle.pala.specs.Record.{uses_epoch, uses_name, uses_parent, uses_payload};
 
 use crate::kinds::{CLOCK_HEARD, PROPOSAL_HEARD, PROPOSE_NOW, VOTE_HEARD};
 use table::PAYLOAD_BYTES;
@@ -10,28 +10,28 @@ use table::names::zero_name;
 
 // Do records of a kind use the epoch.
 pub fn uses_epoch(kind: u32) -> bool
-    ensures { result ≡ usesEpoch (kind ∷ []) }
+    ensures { result ≡ uses_epoch (kind ∷ []) }
 {
     (kind == PROPOSAL_HEARD) | (kind == CLOCK_HEARD)
 }
 
 // Do records of a kind use the name.
 pub fn uses_name(kind: u32) -> bool
-    ensures { result ≡ usesName (kind ∷ []) }
+    ensures { result ≡ uses_name (kind ∷ []) }
 {
     (kind == PROPOSAL_HEARD) | (kind == VOTE_HEARD) | (kind == PROPOSE_NOW)
 }
 
 // Do records of a kind use the parent name.
 pub fn uses_parent(kind: u32) -> bool
-    ensures { result ≡ usesParent (kind ∷ []) }
+    ensures { result ≡ uses_parent (kind ∷ []) }
 {
     kind == PROPOSAL_HEARD
 }
 
 // Do records of a kind use the payload.
 pub fn uses_payload(kind: u32) -> bool
-    ensures { result ≡ usesPayload (kind ∷ []) }
+    ensures { result ≡ uses_payload (kind ∷ []) }
 {
     (kind == PROPOSAL_HEARD) | (kind == PROPOSE_NOW)
 }

@@ -9,8 +9,8 @@ mod writing;
 
 ghost use Rattle.std.specs.Prelude.{◌≡◌, ◌%◌, eqb, length};
 ghost use Rattle.table.specs.Scan.{pick};
-ghost use Rattle.pala.specs.Record.{message, recordBytes};
-ghost use Rattle.record.specs.Fields.{fields_of, noFields};
+ghost use Rattle.pala.specs.Record.{message, record_bytes};
+ghost use Rattle.record.specs.Fields.{fields_of, no_fields};
 
 use copy::put;
 use filler::{name_fits, payload_fits, uses_epoch, uses_name, uses_parent, uses_payload};
@@ -59,7 +59,7 @@ pub struct Fields {
 
 // What stands for the fields of a record of another length.
 fn no_fields() -> Fields
-    ensures { result ≡ noFields }
+    ensures { result ≡ no_fields }
 {
     Fields {
         name: [0; NAME_BYTES as usize],
@@ -74,7 +74,7 @@ fn no_fields() -> Fields
 
 // The fields of a record of 96 bytes, each read once.
 pub fn fields_at(rec: &[u8]) -> Fields
-    ensures { result ≡ pick (eqb (length rec.now) recordBytes) (fields_of rec.now) noFields }
+    ensures { result ≡ pick (eqb (length rec.now) record_bytes) (fields_of rec.now) no_fields }
 {
     if rec.len() != RECORD_BYTES {
         return no_fields();
@@ -104,7 +104,7 @@ pub fn fields_at(rec: &[u8]) -> Fields
 
 // Writes the record of these fields into a buffer of 96 bytes; a buffer of another length stays as it was.
 pub fn write(out: &mut [u8], f: Fields)
-    ensures { out.new ≡ pick (eqb (length out.old) recordBytes) (message (f.kind % 256) (f.sender.0 % 256) f.epoch.0 f.name f.parent f.payload) out.old }
+    ensures { out.new ≡ pick (eqb (length out.old) record_bytes) (message (f.kind % 256) (f.sender.0 % 256) f.epoch.0 f.name f.parent f.payload) out.old }
 {
     if out.len() != RECORD_BYTES {
         return;

@@ -1,8 +1,8 @@
 // The fields of a record's bytes.
 
 ghost use Rattle.std.specs.Prelude.{◌≡◌, ◌+◌, ◌≤◌, ◌<◌, length, take, drop};
-ghost use Rattle.table.specs.Rows.{nameBytes};
-ghost use Rattle.pala.specs.Record.{epochOf, payloadOf, recordBytes};
+ghost use Rattle.table.specs.Rows.{name_bytes};
+ghost use Rattle.pala.specs.Record.{epoch_of, payload_of, record_bytes};
 
 use crate::copy::put;
 use crate::{EPOCH_AT, FOURTH, PAYLOAD_AT, SECOND, THIRD};
@@ -17,8 +17,8 @@ pub fn wide(b: u8) -> u32
 
 // "4 to 7 epoch (low byte first)"
 pub fn epoch_from(rec: &[u8]) -> Epoch
-    requires { length rec.now ≡ recordBytes }
-    ensures { result ≡ record { 0 = epochOf rec.now } }
+    requires { length rec.now ≡ record_bytes }
+    ensures { result ≡ record { 0 = epoch_of rec.now } }
 {
     let first = wide(rec[EPOCH_AT]);
     let second = wide(rec[EPOCH_AT + 1]);
@@ -29,8 +29,8 @@ pub fn epoch_from(rec: &[u8]) -> Epoch
 
 // The 32 bytes from an index on.
 pub fn name_from(rec: &[u8], from: usize) -> [u8; 32]
-    requires { from + nameBytes ≤ length rec.now }
-    ensures { result ≡ take nameBytes (drop from rec.now) }
+    requires { from + name_bytes ≤ length rec.now }
+    ensures { result ≡ take name_bytes (drop from rec.now) }
 {
     let mut name = [0; NAME_BYTES as usize];
     put(&mut name, 0, &rec[from..from + NAME_BYTES as usize]);
@@ -39,8 +39,8 @@ pub fn name_from(rec: &[u8], from: usize) -> [u8; 32]
 
 // The payload of a record.
 pub fn payload_from(rec: &[u8]) -> [u8; 24]
-    requires { length rec.now ≡ recordBytes }
-    ensures { result ≡ payloadOf rec.now }
+    requires { length rec.now ≡ record_bytes }
+    ensures { result ≡ payload_of rec.now }
 {
     let mut payload = [0; PAYLOAD_BYTES as usize];
     put(

@@ -17,22 +17,22 @@ use Rattle.rules.specs.Columns.{places, up_to, cell}
 -- ---- columns
 
 module _ {A : Type 0} where
-  length-upTo : (k : ℕ) (f : ℕ → A) → length (up_to k f) ≡ k
+  length-up_to : (k : ℕ) (f : ℕ → A) → length (up_to k f) ≡ k
   unfolding up_to
-  length-upTo zero f = refl
-  length-upTo (suc k) f = ap suc (length-upTo k (λ i. f (suc i)))
+  length-up_to zero f = refl
+  length-up_to (suc k) f = ap suc (length-up_to k (λ i. f (suc i)))
 
-  getD-upTo : (k : ℕ) (f : ℕ → A) (i : ℕ) (d : A) → i < k → get_or (up_to k f) i d ≡ f i
+  get_or-up_to : (k : ℕ) (f : ℕ → A) (i : ℕ) (d : A) → i < k → get_or (up_to k f) i d ≡ f i
   unfolding up_to
-  getD-upTo zero f i d h = absurd (not-suc-le-zero h)
-  getD-upTo (suc k) f zero d h = refl
-  getD-upTo (suc k) f (suc i) d h = getD-upTo k (λ j. f (suc j)) i d (le_of_suc-le-suc h)
+  get_or-up_to zero f i d h = absurd (not-suc-le-zero h)
+  get_or-up_to (suc k) f zero d h = refl
+  get_or-up_to (suc k) f (suc i) d h = get_or-up_to k (λ j. f (suc j)) i d (le_of_suc-le-suc h)
 
   -- a list is what f gives where each of its elements is
-  upTo-is : (k : ℕ) (f : ℕ → A) (l : List A) → length l ≡ k → ((i : ℕ) → i < k → get_or l i (f 0) ≡ f i) → l ≡ up_to k f
-  upTo-is k f l e h =
-      ext_get_or (f 0) l (up_to k f) (e ∙ sym (length-upTo k f))
-      (λ i m. let b : i < k = omega arith in h i b ∙ sym (getD-upTo k f i (f 0) b))
+  up_to-is : (k : ℕ) (f : ℕ → A) (l : List A) → length l ≡ k → ((i : ℕ) → i < k → get_or l i (f 0) ≡ f i) → l ≡ up_to k f
+  up_to-is k f l e h =
+      ext_get_or (f 0) l (up_to k f) (e ∙ sym (length-up_to k f))
+      (λ i m. let b : i < k = omega arith in h i b ∙ sym (get_or-up_to k f i (f 0) b))
 
   pub cell_in : (d : A) (col : List A) (p : ℕ) → p < places → get_or col p d ≡ cell d col p
   unfolding cell
@@ -43,13 +43,13 @@ module _ {A : Type 0} where
   cell-past d col p h = ap (λ (i : ℕ). get_or col i d) (sym (row-past p h))
 
   -- a column shows f at every place, where f is the same past the column as at the root
-  pub cell-upTo : (d : A) (f : ℕ → A) → ((p : ℕ) → places ≤ p → f p ≡ f 0) → (p : ℕ) → cell d (up_to places f) p ≡ f p
-  cell-upTo d f past p =
+  pub cell-up_to : (d : A) (f : ℕ → A) → ((p : ℕ) → places ≤ p → f p ≡ f 0) → (p : ℕ) → cell d (up_to places f) p ≡ f p
+  cell-up_to d f past p =
       elim (dec_lt p places) [
-        | yes h ↦ sym (cell_in d (up_to places f) p h) ∙ getD-upTo places f p d h
+        | yes h ↦ sym (cell_in d (up_to places f) p h) ∙ get_or-up_to places f p d h
         | no h ↦
             let l : places ≤ p = omega arith in
-            sym (cell-past d (up_to places f) p l) ∙ getD-upTo places f 0 d (omega arith) ∙ sym (past p l)
+            sym (cell-past d (up_to places f) p l) ∙ get_or-up_to places f 0 d (omega arith) ∙ sym (past p l)
       ]
 
   -- a column in the making: below k what f gives, and from there on the root's
@@ -59,12 +59,12 @@ module _ {A : Type 0} where
 
   pub length-made : (f : ℕ → A) (k : ℕ) (col : List A) → col ≡ made f k → length col ≡ places
   unfolding made
-  length-made f k col e = ap length e ∙ length-upTo places (λ i. f (pick (ltb i k) i 0))
+  length-made f k col e = ap length e ∙ length-up_to places (λ i. f (pick (ltb i k) i 0))
 
   pub made-start : (f : ℕ → A) (x : A) → x ≡ f 0 → replicate places x ≡ made f 1
   unfolding made
   made-start f x e =
-      upTo-is places (λ i. f (pick (ltb i 1) i 0)) (replicate places x) (length-replicate places x)
+      up_to-is places (λ i. f (pick (ltb i 1) i 0)) (replicate places x) (length-replicate places x)
       (λ i h. get_or-replicate places i x (f 0) h ∙ e ∙ ap f (sym (pick-case (λ (j : ℕ). j ≡ 0) (ltb i 1) i 0 (λ e. omega (arith, ltb-true i 1 e)) (λ e. refl))))
 
   step-made : (f : ℕ → A) (k : ℕ) → k < places → set (made f k) k (f k) ≡ made f (k + 1)
@@ -72,16 +72,16 @@ module _ {A : Type 0} where
   step-made f k l =
       let old : ℕ → A = λ i. f (pick (ltb i k) i 0) in
       let new : ℕ → A = λ i. f (pick (ltb i (k + 1)) i 0) in
-      upTo-is places new (set (up_to places old) k (f k)) (length-set (up_to places old) k (f k) ∙ length-upTo places old)
+      up_to-is places new (set (up_to places old) k (f k)) (length-set (up_to places old) k (f k) ∙ length-up_to places old)
       (λ i h.
       elim (ℕ_discrete i k) [
         | yes e ↦
             rw e
-            (get_or-set_same (up_to places old) k (f k) (new 0) (omega (arith, length-upTo places old))
+            (get_or-set_same (up_to places old) k (f k) (new 0) (omega (arith, length-up_to places old))
             ∙ ap f (sym (pick_yes (ltb k (k + 1)) k 0 (lt-ltb k (k + 1) (omega arith)))))
         | no e ↦
             get_or-set_other (up_to places old) k i (f k) (new 0) e
-            ∙ getD-upTo places old i (new 0) h
+            ∙ get_or-up_to places old i (new 0) h
             ∙ ap (λ (b : Bool). f (pick b i 0))
             (same_test (ltb i k) (ltb i (k + 1))
             (λ y. lt-ltb i (k + 1) (omega (arith, ltb-true i k y)))
@@ -94,7 +94,7 @@ module _ {A : Type 0} where
   pub made-end : (f : ℕ → A) (k : ℕ) → ((p : ℕ) → k ≤ p → f p ≡ f 0) → made f k ≡ up_to places f
   unfolding made
   made-end f k past =
-      upTo-is places f (up_to places (λ i. f (pick (ltb i k) i 0))) (length-upTo places (λ i. f (pick (ltb i k) i 0)))
+      up_to-is places f (up_to places (λ i. f (pick (ltb i k) i 0))) (length-up_to places (λ i. f (pick (ltb i k) i 0)))
       (λ i h.
-      getD-upTo places (λ j. f (pick (ltb j k) j 0)) i (f 0) h
+      get_or-up_to places (λ j. f (pick (ltb j k) j 0)) i (f 0) h
       ∙ pick-case (λ (j : ℕ). f j ≡ f i) (ltb i k) i 0 (λ e. refl) (λ e. sym (past i (ltb-false i k e))))

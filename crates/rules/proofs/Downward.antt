@@ -10,7 +10,7 @@ use Rattle.table.specs.declared.Place.{Place}
 use Rattle.table.proofs.Laws.{same_test}
 use Rattle.pala.specs.Rules.{lower, fall, among}
 use Rattle.pala.proofs.Falls.{lower-below, every-zero, every-up, among-zero, among-up}
-use Rattle.rules.specs.Columns.{firmBy}
+use Rattle.rules.specs.Columns.{firm_by}
 
 pub next-is : (e before : ℕ) → 0 < e → eqb (e - 1) before ≡ eqb e (before + 1)
 next-is e before h =
@@ -25,21 +25,21 @@ pub next-below : (up : ℕ → ℕ) (p t : ℕ) (q : Place) → p ≡ t → (p �
 next-below up p t q e h n = omega (arith, lower-below up p (omega arith), ap (λ (x : Place). x.0) n)
 
 module _ (up : ℕ → ℕ) (mark : ℕ → Bool) (p : ℕ) where
-  pub firm-zero : p ≡ 0 → firmBy up mark p ≡ true
-  unfolding firmBy
+  pub firm-zero : p ≡ 0 → firm_by up mark p ≡ true
+  unfolding firm_by
   firm-zero e = rw e (every-zero (λ a. eqb a 0 || mark a) up)
 
-  firm-up : (p ≡ 0 → ⊥) → firmBy up mark p ≡ (mark p && firmBy up mark (lower up p))
-  unfolding firmBy
+  firm-up : (p ≡ 0 → ⊥) → firm_by up mark p ≡ (mark p && firm_by up mark (lower up p))
+  unfolding firm_by
   firm-up h =
       every-up (λ a. eqb a 0 || mark a) up p (omega arith)
-      ∙ ap (λ (b : Bool). (b || mark p) && firmBy up mark (lower up p)) (ne_eqb p 0 h)
+      ∙ ap (λ (b : Bool). (b || mark p) && firm_by up mark (lower up p)) (ne_eqb p 0 h)
 
-  pub firm-not : (p ≡ 0 → ⊥) → mark p ≡ false → firmBy up mark p ≡ false
-  firm-not h m = firm-up h ∙ ap (λ (b : Bool). b && firmBy up mark (lower up p)) m
+  pub firm-not : (p ≡ 0 → ⊥) → mark p ≡ false → firm_by up mark p ≡ false
+  firm-not h m = firm-up h ∙ ap (λ (b : Bool). b && firm_by up mark (lower up p)) m
 
-  pub firm-down : (p ≡ 0 → ⊥) → mark p ≡ true → firmBy up mark p ≡ firmBy up mark (lower up p)
-  firm-down h m = firm-up h ∙ ap (λ (b : Bool). b && firmBy up mark (lower up p)) m
+  pub firm-down : (p ≡ 0 → ⊥) → mark p ≡ true → firm_by up mark p ≡ firm_by up mark (lower up p)
+  firm-down h m = firm-up h ∙ ap (λ (b : Bool). b && firm_by up mark (lower up p)) m
 
 module _ (up : ℕ → ℕ) (p a : ℕ) where
   among-down : (p ≡ 0 → ⊥) → among a (fall up p) ≡ (eqb p a || among a (fall up (lower up p)))

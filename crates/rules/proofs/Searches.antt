@@ -10,13 +10,13 @@ use Rattle.table.specs.Rows.{at}
 use Rattle.table.proofs.Laws.{pick_yes, pick_no, pick-case, highest-step}
 use Rattle.pala.specs.Rules.{lower}
 use Rattle.rules.specs.declared.Top.{Top}
-use Rattle.rules.specs.Columns.{firmBy, openBy, votableBy}
+use Rattle.rules.specs.Columns.{firm_by, open_by, votable_by}
 
 -- ---- the freshest: a scan downward, against the definition's direction
 
 -- the block at a place
-abbrev pub topAt : (ℕ → ℕ) → ℕ → Top
-topAt epoch p = record { place = record { 0 = p }; epoch = record { 0 = epoch p } }
+abbrev pub top_at : (ℕ → ℕ) → ℕ → Top
+top_at epoch p = record { place = record { 0 = p }; epoch = record { 0 = epoch p } }
 
 module _ (ok : ℕ → Bool) (rank : ℕ → ℕ) where
   -- the winner of the numbers below k and of those passed, of which `best`, of rank `top`, has won
@@ -75,7 +75,7 @@ module _ (ok : ℕ → Bool) (rank : ℕ → ℕ) where
   against k best = joined k best.place.0 best.epoch.0
 
   -- a turn that asks both: the block at k - 1 wins, or what was best stays
-  pub against-turn : (k : ℕ) (here best : Top) (wins : Bool) → 1 < k → here ≡ topAt rank (k - 1)
+  pub against-turn : (k : ℕ) (here best : Top) (wins : Bool) → 1 < k → here ≡ top_at rank (k - 1)
       → (wins ≡ true → (ok (k - 1) ≡ true) × (best.epoch.0 ≤ rank (k - 1)))
       → (wins ≡ false → ok (k - 1) ≡ true → rank (k - 1) < best.epoch.0)
       → against k best ≡ against (k - 1) (pick wins here best)
@@ -107,38 +107,38 @@ and-false false = refl
 
 module _ (up epoch : ℕ → ℕ) (mark : ℕ → Bool) (local bar : ℕ) where
   module _ (p : ℕ) where
-    pub open-other : (epoch p ≡ local → ⊥) → openBy up epoch mark local bar p ≡ false
-    unfolding openBy
-    open-other h = ap (λ (b : Bool). b && firmBy up mark (lower up p) && leb bar (epoch (lower up p))) (ne_eqb (epoch p) local h)
+    pub open-other : (epoch p ≡ local → ⊥) → open_by up epoch mark local bar p ≡ false
+    unfolding open_by
+    open-other h = ap (λ (b : Bool). b && firm_by up mark (lower up p) && leb bar (epoch (lower up p))) (ne_eqb (epoch p) local h)
 
-    pub open-barred : epoch (lower up p) < bar → openBy up epoch mark local bar p ≡ false
-    unfolding openBy
+    pub open-barred : epoch (lower up p) < bar → open_by up epoch mark local bar p ≡ false
+    unfolding open_by
     open-barred h =
-        ap (λ (b : Bool). eqb (epoch p) local && firmBy up mark (lower up p) && b) (lt-leb bar (epoch (lower up p)) h)
-        ∙ and-false (eqb (epoch p) local && firmBy up mark (lower up p))
+        ap (λ (b : Bool). eqb (epoch p) local && firm_by up mark (lower up p) && b) (lt-leb bar (epoch (lower up p)) h)
+        ∙ and-false (eqb (epoch p) local && firm_by up mark (lower up p))
 
-    pub open-firm : epoch p ≡ local → bar ≤ epoch (lower up p) → openBy up epoch mark local bar p ≡ firmBy up mark (lower up p)
-    unfolding openBy
+    pub open-firm : epoch p ≡ local → bar ≤ epoch (lower up p) → open_by up epoch mark local bar p ≡ firm_by up mark (lower up p)
+    unfolding open_by
     open-firm e h =
-        ap (λ (b : Bool). b && firmBy up mark (lower up p) && leb bar (epoch (lower up p))) (eq-eqb (epoch p) local e)
-        ∙ ap (λ (b : Bool). firmBy up mark (lower up p) && b) (le-leb bar (epoch (lower up p)) h)
-        ∙ and-true (firmBy up mark (lower up p))
+        ap (λ (b : Bool). b && firm_by up mark (lower up p) && leb bar (epoch (lower up p))) (eq-eqb (epoch p) local e)
+        ∙ ap (λ (b : Bool). firm_by up mark (lower up p) && b) (le-leb bar (epoch (lower up p)) h)
+        ∙ and-true (firm_by up mark (lower up p))
 
-    pub votable-open : (voted : ℕ) → 0 < p → (voted ≡ local → ⊥) → votableBy up epoch mark local bar voted p ≡ openBy up epoch mark local bar p
-    unfolding votableBy openBy
+    pub votable-open : (voted : ℕ) → 0 < p → (voted ≡ local → ⊥) → votable_by up epoch mark local bar voted p ≡ open_by up epoch mark local bar p
+    unfolding votable_by open_by
     votable-open voted h n =
-        ap (λ (b : Bool). b && eqb (epoch p) local && firmBy up mark (lower up p) && leb bar (epoch (lower up p)) && not (eqb voted local)) (lt-ltb 0 p h)
-        ∙ ap (λ (b : Bool). openBy up epoch mark local bar p && not b) (ne_eqb voted local n)
-        ∙ and-true (openBy up epoch mark local bar p)
+        ap (λ (b : Bool). b && eqb (epoch p) local && firm_by up mark (lower up p) && leb bar (epoch (lower up p)) && not (eqb voted local)) (lt-ltb 0 p h)
+        ∙ ap (λ (b : Bool). open_by up epoch mark local bar p && not b) (ne_eqb voted local n)
+        ∙ and-true (open_by up epoch mark local bar p)
 
-    pub votable-voted : (voted : ℕ) → voted ≡ local → votableBy up epoch mark local bar voted p ≡ false
-    unfolding votableBy
+    pub votable-voted : (voted : ℕ) → voted ≡ local → votable_by up epoch mark local bar voted p ≡ false
+    unfolding votable_by
     votable-voted voted e =
-        ap (λ (b : Bool). ltb 0 p && eqb (epoch p) local && firmBy up mark (lower up p) && leb bar (epoch (lower up p)) && not b) (eq-eqb voted local e)
-        ∙ and-false (ltb 0 p && eqb (epoch p) local && firmBy up mark (lower up p) && leb bar (epoch (lower up p)))
+        ap (λ (b : Bool). ltb 0 p && eqb (epoch p) local && firm_by up mark (lower up p) && leb bar (epoch (lower up p)) && not b) (eq-eqb voted local e)
+        ∙ and-false (ltb 0 p && eqb (epoch p) local && firm_by up mark (lower up p) && leb bar (epoch (lower up p)))
 
   -- the genesis may not be voted for, nor a block that isn't open
-  pub votable-not : (voted p : ℕ) → (voted ≡ local → ⊥) → (0 < p → openBy up epoch mark local bar p ≡ false) → votableBy up epoch mark local bar voted p ≡ false
-  unfolding votableBy
+  pub votable-not : (voted p : ℕ) → (voted ≡ local → ⊥) → (0 < p → open_by up epoch mark local bar p ≡ false) → votable_by up epoch mark local bar voted p ≡ false
+  unfolding votable_by
   votable-not voted zero n h = refl
   votable-not voted (suc p) n h = votable-open (suc p) voted (omega arith) n ∙ h (omega arith)

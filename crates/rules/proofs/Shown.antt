@@ -14,24 +14,24 @@ use Rattle.table.specs.Scan.{count, lowest}
 use Rattle.table.specs.Rows.{rows, size, at, votes}
 use Rattle.table.proofs.Laws.{at_out, at_rows, size-rows}
 use Rattle.pala.specs.Counts.{quorum}
-use Rattle.pala.specs.Rules.{epochAt, lower, fall, among, line, parent_of, notarized, firm, normal, votable, freshest, ballot, freshestNormal, candidate, descends, agreed}
-use Rattle.pala.specs.Steps.{freshEpoch, forward}
+use Rattle.pala.specs.Rules.{epoch_at, lower, fall, among, line, parent_of, notarized, firm, normal, votable, freshest, ballot, freshest_normal, candidate, descends, agreed}
+use Rattle.pala.specs.Steps.{fresh_epoch, forward}
 use Rattle.rules.specs.declared.columns.Columns.{Columns}
-use Rattle.rules.specs.Columns.{places, up_to, cell, number_at, markAt, upOf, mark_of, columns, firmBy, freshestBy, normalBy, freshestNormalBy, votableBy}
+use Rattle.rules.specs.Columns.{places, up_to, cell, number_at, mark_at, up_of, mark_of, columns, firm_by, freshest_by, normal_by, freshest_normal_by, votable_by}
 use Rattle.rules.specs.declared.Standing.{Standing}
 use Rattle.rules.specs.declared.Top.{Top}
 use Rattle.rules.specs.declared.scans.Tops.{Tops}
-use Rattle.rules.specs.Standing.{standingBy, topsBy}
-use Rattle.rules.proofs.Cells.{cell-upTo, made, made-end, made-start, made-step}
+use Rattle.rules.specs.Standing.{standing_by, tops_by}
+use Rattle.rules.proofs.Cells.{cell-up_to, made, made-end, made-start, made-step}
 
 -- ---- the columns of a state
 
 -- where a state stands before the five steps, by 01's rules
 unfoldable pub standing : State → Standing
-unfolding freshEpoch agreed candidate forward descends rows
+unfolding fresh_epoch agreed candidate forward descends rows
 standing s =
     record {
-      fresh = record { 0 = freshEpoch s };
+      fresh = record { 0 = fresh_epoch s };
       clock = record { 0 = max s.local.0 (agreed s.n s.clocks) };
       candidate = record { 0 = candidate s.n (rows s) };
       forward = forward s;
@@ -59,29 +59,29 @@ module _ (s : State) (held : length s.blocks ≡ places) where
     column-end k col e h = h ∙ made-end (λ p. read (at (rows s) p)) k (λ p l. row-past p (omega arith))
 
     column-shows : (d : A) (p : ℕ) → cell d (up_to places (λ q. read (at (rows s) q))) p ≡ read (at (rows s) p)
-    column-shows d = cell-upTo d (λ p. read (at (rows s) p)) (λ p h. row-past p (omega (arith, size-le)))
+    column-shows d = cell-up_to d (λ p. read (at (rows s) p)) (λ p h. row-past p (omega (arith, size-le)))
 
   -- a rule over the columns is the rule over the rows
-  pub shown : {A : Type 0} (R : ℕ → (ℕ → ℕ) → (ℕ → ℕ) → (ℕ → Bool) → A) (c : Columns) → c ≡ columns s → R c.size (number_at c.parents) (number_at c.epochs) (markAt c.marks) ≡ R (size (rows s)) (upOf (rows s)) (epochAt (rows s)) (mark_of s.n (rows s))
-  unfolding columns upOf epochAt mark_of
+  pub shown : {A : Type 0} (R : ℕ → (ℕ → ℕ) → (ℕ → ℕ) → (ℕ → Bool) → A) (c : Columns) → c ≡ columns s → R c.size (number_at c.parents) (number_at c.epochs) (mark_at c.marks) ≡ R (size (rows s)) (up_of (rows s)) (epoch_at (rows s)) (mark_of s.n (rows s))
+  unfolding columns up_of epoch_at mark_of
   shown R c e =
       let t = rows s in
       let m : Block → Bool = λ b. leb (quorum s.n) (votes b) in
-      let up : ℕ → ℕ = upOf t in
-      ap (λ (x : Columns). R x.size (number_at x.parents) (number_at x.epochs) (markAt x.marks)) e
-      ∙ ap (λ (f : ℕ → ℕ). R (size t) f (number_at (columns s).epochs) (markAt (columns s).marks)) (fun_ext (column-shows (λ b. b.parent.0) 0))
-      ∙ ap (λ (f : ℕ → ℕ). R (size t) up f (markAt (columns s).marks)) (fun_ext (column-shows (λ b. b.epoch.0) 0))
-      ∙ ap (λ (f : ℕ → Bool). R (size t) up (epochAt t) f) (fun_ext (column-shows m false))
+      let up : ℕ → ℕ = up_of t in
+      ap (λ (x : Columns). R x.size (number_at x.parents) (number_at x.epochs) (mark_at x.marks)) e
+      ∙ ap (λ (f : ℕ → ℕ). R (size t) f (number_at (columns s).epochs) (mark_at (columns s).marks)) (fun_ext (column-shows (λ b. b.parent.0) 0))
+      ∙ ap (λ (f : ℕ → ℕ). R (size t) up f (mark_at (columns s).marks)) (fun_ext (column-shows (λ b. b.epoch.0) 0))
+      ∙ ap (λ (f : ℕ → Bool). R (size t) up (epoch_at t) f) (fun_ext (column-shows m false))
 
   -- and so is one over no more places than the columns have: a table has no more
-  shown-within : {A : Type 0} (R : ℕ → (ℕ → ℕ) → (ℕ → ℕ) → (ℕ → Bool) → A) (c : Columns) → c ≡ columns s → R (min c.size places) (number_at c.parents) (number_at c.epochs) (markAt c.marks) ≡ R (size (rows s)) (upOf (rows s)) (epochAt (rows s)) (mark_of s.n (rows s))
+  shown-within : {A : Type 0} (R : ℕ → (ℕ → ℕ) → (ℕ → ℕ) → (ℕ → Bool) → A) (c : Columns) → c ≡ columns s → R (min c.size places) (number_at c.parents) (number_at c.epochs) (mark_at c.marks) ≡ R (size (rows s)) (up_of (rows s)) (epoch_at (rows s)) (mark_of s.n (rows s))
   shown-within R c e =
       let fits : min (size (rows s)) places ≡ size (rows s) = omega (arith, size-le) in
-      shown (λ k. R (min k places)) c e ∙ ap (λ (k : ℕ). R k (upOf (rows s)) (epochAt (rows s)) (mark_of s.n (rows s))) fits
+      shown (λ k. R (min k places)) c e ∙ ap (λ (k : ℕ). R k (up_of (rows s)) (epoch_at (rows s)) (mark_of s.n (rows s))) fits
 
   -- the columns are made once the last row is in them
   pub columns-made : (parents epochs : List ℕ) (marks : List Bool) (k end : ℕ) → k ≡ end → end ≡ size (rows s) → parents ≡ made (λ p. (at (rows s) p).parent.0) k → epochs ≡ made (λ p. (at (rows s) p).epoch.0) k → marks ≡ made (λ p. leb (quorum s.n) (votes (at (rows s) p))) k → record { parents = parents; epochs = epochs; marks = marks; size = end } ≡ columns s
-  unfolding columns upOf epochAt mark_of
+  unfolding columns up_of epoch_at mark_of
   columns-made parents epochs marks k end z e up ep mark =
       let up_is = column-end (λ b. b.parent.0) k parents (z ∙ e) up in
       let epoch-is = column-end (λ b. b.epoch.0) k epochs (z ∙ e) ep in
@@ -92,39 +92,39 @@ module _ (s : State) (held : length s.blocks ≡ places) where
       ∙ ap (λ (x : ℕ). record { parents = (columns s).parents; epochs = (columns s).epochs; marks = (columns s).marks; size = x }) e
 
   module _ (c : Columns) (e : c ≡ columns s) where
-    pub freshest-shown : freshestBy (min c.size places) (number_at c.parents) (number_at c.epochs) (markAt c.marks) ≡ freshest s.n (rows s)
-    unfolding freshestBy freshest firmBy firm notarized line upOf mark_of
-    freshest-shown = shown-within (λ k up epoch mark. freshestBy k up epoch mark) c e
+    pub freshest-shown : freshest_by (min c.size places) (number_at c.parents) (number_at c.epochs) (mark_at c.marks) ≡ freshest s.n (rows s)
+    unfolding freshest_by freshest firm_by firm notarized line up_of mark_of
+    freshest-shown = shown-within (λ k up epoch mark. freshest_by k up epoch mark) c e
 
-    pub ballot-shown : (local bar voted : ℕ) → lowest c.size (votableBy (number_at c.parents) (number_at c.epochs) (markAt c.marks) local bar voted) ≡ ballot s.n (rows s) local bar voted
-    unfolding votableBy ballot votable firmBy firm notarized line parent_of upOf mark_of
-    ballot-shown local bar voted = shown (λ k up epoch mark. lowest k (votableBy up epoch mark local bar voted)) c e
+    pub ballot-shown : (local bar voted : ℕ) → lowest c.size (votable_by (number_at c.parents) (number_at c.epochs) (mark_at c.marks) local bar voted) ≡ ballot s.n (rows s) local bar voted
+    unfolding votable_by ballot votable firm_by firm notarized line parent_of up_of mark_of
+    ballot-shown local bar voted = shown (λ k up epoch mark. lowest k (votable_by up epoch mark local bar voted)) c e
 
     -- the epoch of the freshest
-    pub fresh-shown : number_at c.epochs (freshest s.n (rows s)) ≡ freshEpoch s
-    unfolding freshEpoch
+    pub fresh-shown : number_at c.epochs (freshest s.n (rows s)) ≡ fresh_epoch s
+    unfolding fresh_epoch
     fresh-shown = shown (λ _ _ epoch _. epoch (freshest s.n (rows s))) c e
 
     pub top-shown : (tops : Tops) (fresh : Epoch)
-        → tops ≡ topsBy (min c.size places) (number_at c.parents) (number_at c.epochs) (markAt c.marks)
+        → tops ≡ tops_by (min c.size places) (number_at c.parents) (number_at c.epochs) (mark_at c.marks)
         → fresh ≡ record { 0 = number_at c.epochs tops.fresh.0 }
-        → ◌≡◌ {A = Top} (record { place = tops.fresh; epoch = fresh }) (record { place = record { 0 = freshest s.n (rows s) }; epoch = record { 0 = freshEpoch s } })
-    unfolding topsBy
+        → ◌≡◌ {A = Top} (record { place = tops.fresh; epoch = fresh }) (record { place = record { 0 = freshest s.n (rows s) }; epoch = record { 0 = fresh_epoch s } })
+    unfolding tops_by
     top-shown tops fresh tops-is fresh-is =
         let at : tops.fresh ≡ record { 0 = freshest s.n (rows s) } = ap (λ (w : Tops). w.fresh) tops-is ∙ ap (λ (k : ℕ). record { 0 = k }) freshest-shown in
-        let of : fresh ≡ record { 0 = freshEpoch s } =
+        let of : fresh ≡ record { 0 = fresh_epoch s } =
         fresh-is ∙ ap (λ (q : Place). record { 0 = number_at c.epochs q.0 }) at ∙ ap (λ (k : ℕ). record { 0 = k }) fresh-shown in
         λ i. record { place = at i; epoch = of i }
 
     -- the freshest block, the freshest normal one, that one's parent, and what is told of them
-    pub standing-shown : standingBy c s.clocks s.n s.local.0 s.kept.0 ≡ standing s
-    unfolding standingBy standing topsBy freshEpoch forward descends line candidate parent_of normal freshest freshestNormal freshestBy freshestNormalBy firmBy firm notarized normalBy upOf mark_of
+    pub standing-shown : standing_by c s.clocks s.n s.local.0 s.kept.0 ≡ standing s
+    unfolding standing_by standing tops_by fresh_epoch forward descends line candidate parent_of normal freshest freshest_normal freshest_by freshest_normal_by firm_by firm notarized normal_by up_of mark_of
     standing-shown =
         shown-within
         (λ k up epoch mark.
-        let next : ℕ = lower up (freshestNormalBy k up epoch mark) in
+        let next : ℕ = lower up (freshest_normal_by k up epoch mark) in
         record {
-          fresh = record { 0 = epoch (freshestBy k up epoch mark) };
+          fresh = record { 0 = epoch (freshest_by k up epoch mark) };
           clock = record { 0 = max s.local.0 (agreed s.n s.clocks) };
           candidate = record { 0 = next };
           forward = among s.kept.0 (fall up next);
@@ -142,17 +142,17 @@ module _ (c : Columns) (clocks : List Epoch) (n local kept : ℕ) where
   epoch = number_at c.epochs
 
   tops : Tops
-  tops = topsBy (min c.size places) up epoch (markAt c.marks)
+  tops = tops_by (min c.size places) up epoch (mark_at c.marks)
 
   pub standing-made : (found : Tops) (cand : Place) (fresh clock : Epoch) (fwd back : Bool)
-      → found ≡ topsBy (min c.size places) (number_at c.parents) (number_at c.epochs) (markAt c.marks)
+      → found ≡ tops_by (min c.size places) (number_at c.parents) (number_at c.epochs) (mark_at c.marks)
       → cand ≡ record { 0 = lower (number_at c.parents) found.normal.0 }
       → fresh ≡ record { 0 = number_at c.epochs found.fresh.0 }
       → clock ≡ record { 0 = max local (agreed n clocks) }
       → fwd ≡ among kept (fall (number_at c.parents) cand.0)
       → back ≡ among cand.0 (fall (number_at c.parents) kept)
-      → record { fresh = fresh; clock = clock; candidate = cand; forward = fwd; back = back } ≡ standingBy c clocks n local kept
-  unfolding standingBy up epoch tops
+      → record { fresh = fresh; clock = clock; candidate = cand; forward = fwd; back = back } ≡ standing_by c clocks n local kept
+  unfolding standing_by up epoch tops
   standing-made found cand fresh clock fwd back found-is cand-is fresh-is clock-is fwd-is back_is =
       let cand-at : cand ≡ record { 0 = lower up tops.normal.0 } = cand-is ∙ ap (λ (w : Tops). record { 0 = lower up w.normal.0 }) found-is in
       let fresh_at = fresh-is ∙ ap (λ (w : Tops). record { 0 = epoch w.fresh.0 }) found-is in

@@ -11,33 +11,33 @@ use Rattle.table.specs.Scan.{pick}
 use Rattle.table.proofs.Laws.{pick-case, not-both}
 use Rattle.pala.proofs.Tests.{and_l, and_r, nand}
 use Rattle.rules.specs.declared.Top.{Top}
-use Rattle.rules.specs.Columns.{firmBy, freshestBy, normalBy, freshestNormalBy}
-use Rattle.rules.specs.Standing.{topsBy}
-use Rattle.rules.proofs.Searches.{topAt, against, against-turn, joined-start, joined-passed, joined_end}
+use Rattle.rules.specs.Columns.{firm_by, freshest_by, normal_by, freshest_normal_by}
+use Rattle.rules.specs.Standing.{tops_by}
+use Rattle.rules.proofs.Searches.{top_at, against, against-turn, joined-start, joined-passed, joined_end}
 
 -- nothing has won
 abbrev pub none : Top
 none = record { place = record { 0 = 0 }; epoch = record { 0 = 0 } }
 
 -- what won, or the genesis where it isn't above its epoch
-abbrev pub wonBy : ℕ → Top → ℕ
-wonBy root best = pick (ltb root best.epoch.0) best.place.0 0
+abbrev pub won_by : ℕ → Top → ℕ
+won_by root best = pick (ltb root best.epoch.0) best.place.0 0
 
 module _ (up epoch : ℕ → ℕ) (mark : ℕ → Bool) where
   abbrev firmly : ℕ → Bool
-  firmly p = firmBy up mark p
+  firmly p = firm_by up mark p
 
   abbrev both : ℕ → Bool
-  both p = firmBy up mark p && normalBy up epoch p
+  both p = firm_by up mark p && normal_by up epoch p
 
   -- the places from k on are passed; of them `fresh` and `last` have won, and a normal block is no later than the freshest
   pub record Scanned (size k : ℕ) (fresh last : Top) : Type 0 where
-    pub freshly : freshestBy size up epoch mark ≡ against firmly epoch k fresh
-    pub lately : freshestNormalBy size up epoch mark ≡ against both epoch k last
+    pub freshly : freshest_by size up epoch mark ≡ against firmly epoch k fresh
+    pub lately : freshest_normal_by size up epoch mark ≡ against both epoch k last
     pub order : last.epoch.0 ≤ fresh.epoch.0
 
   pub scanned-start : (size k : ℕ) → k ≡ size → Scanned size k none none
-  unfolding freshestBy freshestNormalBy
+  unfolding freshest_by freshest_normal_by
   scanned-start size k e =
       record {
         freshly = joined-start firmly epoch size 0 ∙ ap (λ (j : ℕ). against firmly epoch j none) (sym e);
@@ -48,18 +48,18 @@ module _ (up epoch : ℕ → ℕ) (mark : ℕ → Bool) where
   module _ {size k : ℕ} {fresh last : Top} (w : Scanned size k fresh last) where
     -- a block that isn't firm, or is earlier than the freshest and isn't normal or earlier than the last normal one too, is passed over
     pub scanned-passed : 1 < k
-        → (firmBy up mark (k - 1) ≡ true → (epoch (k - 1) < fresh.epoch.0) × (normalBy up epoch (k - 1) ≡ true → epoch (k - 1) < last.epoch.0))
+        → (firm_by up mark (k - 1) ≡ true → (epoch (k - 1) < fresh.epoch.0) × (normal_by up epoch (k - 1) ≡ true → epoch (k - 1) < last.epoch.0))
         → Scanned size (k - 1) fresh last
     scanned-passed more h =
         record {
           freshly = w.freshly ∙ joined-passed firmly epoch k fresh.place.0 fresh.epoch.0 more (λ y. (h y).0);
-          lately = w.lately ∙ joined-passed both epoch k last.place.0 last.epoch.0 more (λ y. (h (and_l (firmBy up mark (k - 1)) _ y)).1 (and_r (firmBy up mark (k - 1)) _ y));
+          lately = w.lately ∙ joined-passed both epoch k last.place.0 last.epoch.0 more (λ y. (h (and_l (firm_by up mark (k - 1)) _ y)).1 (and_r (firm_by up mark (k - 1)) _ y));
           order = w.order;
         }
 
     -- a block that is no earlier than the last normal one wins, being firm, by its epoch and by being normal
-    pub scanned-turn : (here : Top) (fresher next : Bool) → 1 < k → here ≡ topAt epoch (k - 1) → last.epoch.0 ≤ epoch (k - 1)
-        → fresher ≡ (firmBy up mark (k - 1) && leb fresh.epoch.0 (epoch (k - 1))) → next ≡ both (k - 1)
+    pub scanned-turn : (here : Top) (fresher next : Bool) → 1 < k → here ≡ top_at epoch (k - 1) → last.epoch.0 ≤ epoch (k - 1)
+        → fresher ≡ (firm_by up mark (k - 1) && leb fresh.epoch.0 (epoch (k - 1))) → next ≡ both (k - 1)
         → Scanned size (k - 1) (pick fresher here fresh) (pick next here last)
     scanned-turn here fresher next more e l a b =
         record {
@@ -69,7 +69,7 @@ module _ (up epoch : ℕ → ℕ) (mark : ℕ → Bool) where
         }
       where
         firm-here : Bool
-        firm-here = firmBy up mark (k - 1)
+        firm-here = firm_by up mark (k - 1)
 
         later : Bool
         later = leb fresh.epoch.0 (epoch (k - 1))
@@ -84,16 +84,16 @@ module _ (up epoch : ℕ → ℕ) (mark : ℕ → Bool) where
         ordered =
             pick-case (λ (t : Top). (pick next here last).epoch.0 ≤ t.epoch.0) fresher here fresh
             (λ y. pick-case (λ (t : Top). t.epoch.0 ≤ here.epoch.0) next here last (λ _. omega arith) (λ _. omega (arith, here-is)))
-            (λ n. pick-case (λ (t : Top). t.epoch.0 ≤ fresh.epoch.0) next here last (λ y. omega (arith, here-is, earlier n (and_l firm-here (normalBy up epoch (k - 1)) (sym b ∙ y)))) (λ _. w.order))
+            (λ n. pick-case (λ (t : Top). t.epoch.0 ≤ fresh.epoch.0) next here last (λ y. omega (arith, here-is, earlier n (and_l firm-here (normal_by up epoch (k - 1)) (sym b ∙ y)))) (λ _. w.order))
 
     -- once all are passed, what won is told against the genesis's epoch
     pub scanned-end : (root : Epoch) (found normal : Place) → k ≤ 1 → root.0 ≡ epoch 0
-        → found ≡ record { 0 = wonBy root.0 fresh } → normal ≡ record { 0 = wonBy root.0 last }
-        → record { fresh = found; normal = normal } ≡ topsBy size up epoch mark
-    unfolding topsBy
+        → found ≡ record { 0 = won_by root.0 fresh } → normal ≡ record { 0 = won_by root.0 last }
+        → record { fresh = found; normal = normal } ≡ tops_by size up epoch mark
+    unfolding tops_by
     scanned-end root found normal less e f n =
         let a = w.freshly ∙ joined_end firmly epoch k fresh.place.0 fresh.epoch.0 less in
         let b = w.lately ∙ joined_end both epoch k last.place.0 last.epoch.0 less in
-        let at-fresh = f ∙ ap (λ (x : ℕ). record { 0 = x }) (ap (λ (x : ℕ). wonBy x fresh) e ∙ sym a) in
-        let at-normal = n ∙ ap (λ (x : ℕ). record { 0 = x }) (ap (λ (x : ℕ). wonBy x last) e ∙ sym b) in
+        let at-fresh = f ∙ ap (λ (x : ℕ). record { 0 = x }) (ap (λ (x : ℕ). won_by x fresh) e ∙ sym a) in
+        let at-normal = n ∙ ap (λ (x : ℕ). record { 0 = x }) (ap (λ (x : ℕ). won_by x last) e ∙ sym b) in
         λ i. record { fresh = at-fresh i; normal = at-normal i }

@@ -6,7 +6,7 @@ use Rattle.table.specs.declared.State.{State}
 use Rattle.table.specs.Scan.{highest}
 use Rattle.table.specs.Rows.{capacity, row_of, rows, size, at, votes}
 use Rattle.pala.specs.Counts.{quorum}
-use Rattle.pala.specs.Rules.{epochAt, lower, fall, every}
+use Rattle.pala.specs.Rules.{epoch_at, lower, fall, every}
 use Rattle.rules.specs.declared.columns.Columns.{Columns}
 
 -- "place 0" and "places 1 to 64"
@@ -26,13 +26,13 @@ cell d col p = get_or col (row_of p) d
 abbrev pub number_at : List ℕ → ℕ → ℕ
 number_at col p = cell 0 col p
 
-abbrev pub markAt : List Bool → ℕ → Bool
-markAt marks p = cell false marks p
+abbrev pub mark_at : List Bool → ℕ → Bool
+mark_at marks p = cell false marks p
 
 -- what the columns show: a block's parent, and whether its votes reach the quorum
-unfoldable pub upOf : List Block → ℕ → ℕ
+unfoldable pub up_of : List Block → ℕ → ℕ
 unfolding at
-upOf t p = (at t p).parent.0
+up_of t p = (at t p).parent.0
 
 unfoldable pub mark_of : ℕ → List Block → ℕ → Bool
 unfolding quorum votes at
@@ -40,43 +40,43 @@ mark_of n t p = leb (quorum n) (votes (at t p))
 
 -- the columns of a state
 unfoldable pub columns : State → Columns
-unfolding up_to upOf epochAt mark_of rows
+unfolding up_to up_of epoch_at mark_of rows
 columns s =
     record {
-      parents = up_to places (λ p. upOf (rows s) p);
-      epochs = up_to places (λ p. epochAt (rows s) p);
+      parents = up_to places (λ p. up_of (rows s) p);
+      epochs = up_to places (λ p. epoch_at (rows s) p);
       marks = up_to places (λ p. mark_of s.n (rows s) p);
       size = size (rows s);
     }
 
 -- "firm when it and every ancestor up to genesis is notarized"; the genesis is "notarized by decree"
-unfoldable pub firmBy : (ℕ → ℕ) → (ℕ → Bool) → ℕ → Bool
+unfoldable pub firm_by : (ℕ → ℕ) → (ℕ → Bool) → ℕ → Bool
 unfolding every fall
-firmBy up mark p = every (λ a. eqb a 0 || mark a) (fall up p)
+firm_by up mark p = every (λ a. eqb a 0 || mark a) (fall up p)
 
 -- "the firm block of highest epoch; of equals the lowest place"
-unfoldable pub freshestBy : ℕ → (ℕ → ℕ) → (ℕ → ℕ) → (ℕ → Bool) → ℕ
-unfolding highest firmBy
-freshestBy k up epoch mark = highest k (λ p. firmBy up mark p) epoch
+unfoldable pub freshest_by : ℕ → (ℕ → ℕ) → (ℕ → ℕ) → (ℕ → Bool) → ℕ
+unfolding highest firm_by
+freshest_by k up epoch mark = highest k (λ p. firm_by up mark p) epoch
 
 -- "A block is normal when its epoch is its parent's plus 1"
-unfoldable pub normalBy : (ℕ → ℕ) → (ℕ → ℕ) → ℕ → Bool
+unfoldable pub normal_by : (ℕ → ℕ) → (ℕ → ℕ) → ℕ → Bool
 unfolding lower
-normalBy up epoch p = eqb (epoch p) (epoch (lower up p) + 1)
+normal_by up epoch p = eqb (epoch p) (epoch (lower up p) + 1)
 
 -- 02, M-104: "the firm normal block of highest epoch, lowest place among equals"
-unfoldable pub freshestNormalBy : ℕ → (ℕ → ℕ) → (ℕ → ℕ) → (ℕ → Bool) → ℕ
-unfolding highest firmBy normalBy
-freshestNormalBy k up epoch mark = highest k (λ p. firmBy up mark p && normalBy up epoch p) epoch
+unfoldable pub freshest_normal_by : ℕ → (ℕ → ℕ) → (ℕ → ℕ) → (ℕ → Bool) → ℕ
+unfolding highest firm_by normal_by
+freshest_normal_by k up epoch mark = highest k (λ p. firm_by up mark p && normal_by up epoch p) epoch
 
 -- "its epoch is the local epoch, its parent is firm, the parent's epoch is at least the bar"
-unfoldable pub openBy : (ℕ → ℕ) → (ℕ → ℕ) → (ℕ → Bool) → ℕ → ℕ → ℕ → Bool
-unfolding firmBy lower
-openBy up epoch mark local bar p =
-    eqb (epoch p) local && firmBy up mark (lower up p) && leb bar (epoch (lower up p))
+unfoldable pub open_by : (ℕ → ℕ) → (ℕ → ℕ) → (ℕ → Bool) → ℕ → ℕ → ℕ → Bool
+unfolding firm_by lower
+open_by up epoch mark local bar p =
+    eqb (epoch p) local && firm_by up mark (lower up p) && leb bar (epoch (lower up p))
 
 -- "and the last epoch voted in isn't the local one"
-unfoldable pub votableBy : (ℕ → ℕ) → (ℕ → ℕ) → (ℕ → Bool) → ℕ → ℕ → ℕ → ℕ → Bool
-unfolding firmBy lower
-votableBy up epoch mark local bar voted p =
-    ltb 0 p && eqb (epoch p) local && firmBy up mark (lower up p) && leb bar (epoch (lower up p)) && not (eqb voted local)
+unfoldable pub votable_by : (ℕ → ℕ) → (ℕ → ℕ) → (ℕ → Bool) → ℕ → ℕ → ℕ → ℕ → Bool
+unfolding firm_by lower
+votable_by up epoch mark local bar voted p =
+    ltb 0 p && eqb (epoch p) local && firm_by up mark (lower up p) && leb bar (epoch (lower up p)) && not (eqb voted local)

@@ -2,7 +2,7 @@
 
 ghost use Rattle.std.specs.Prelude.{◌≡◌, ◌+◌, eqb};
 ghost use Rattle.pala.specs.Rules.{among, fall};
-ghost use Rattle.rules.specs.Columns.{firmBy, markAt, normalBy, number_at};
+ghost use Rattle.rules.specs.Columns.{firm_by, mark_at, normal_by, number_at};
 
 use crate::lookups::{epoch_at, lower_at, mark_at};
 use table::{Epoch, Place};
@@ -12,7 +12,7 @@ const STEP: u32 = 1;
 
 // "firm when it and every ancestor up to genesis is notarized"; the genesis is "notarized by decree"
 pub fn firm<'a>(parents: &'a [u32; 65], marks: &'a [bool; 65], p: Place) -> bool
-    ensures { result ≡ firmBy (number_at parents.now) (markAt marks.now) p.0 }
+    ensures { result ≡ firm_by (number_at parents.now) (mark_at marks.now) p.0 }
 {
     if p.0 == 0 {
         return true;
@@ -35,7 +35,7 @@ fn is_next(e: Epoch, before: Epoch) -> bool
 
 // "A block is normal when its epoch is its parent's plus 1"
 pub fn normal(parents: &[u32; 65], epochs: &[u32; 65], p: Place) -> bool
-    ensures { result ≡ normalBy (number_at parents.now) (number_at epochs.now) p.0 }
+    ensures { result ≡ normal_by (number_at parents.now) (number_at epochs.now) p.0 }
 {
     let parent = lower_at(parents, p);
     is_next(epoch_at(epochs, p), epoch_at(epochs, parent))

@@ -1,7 +1,7 @@
 // "the greatest c such that at least q nodes have a kept clock of c or more"
 
 ghost use Rattle.std.specs.Prelude.{◌≡◌, ◌+◌, ◌≤◌, max, min};
-ghost use Rattle.table.specs.Rows.{mostNodes};
+ghost use Rattle.table.specs.Rows.{most_nodes};
 ghost use Rattle.table.specs.Scan.{count, pick};
 ghost use Rattle.pala.specs.Rules.{agreed, reached, shared};
 
@@ -10,7 +10,7 @@ use table::{Epoch, MOST_NODES};
 
 // How many of the nodes have a clock that can be kept; an n above 32, which no state of 01 has, gives no more.
 fn clocks_held(n: u32) -> u32
-    ensures { result ≡ min n mostNodes }
+    ensures { result ≡ min n most_nodes }
 {
     if MOST_NODES < n {
         return MOST_NODES;
@@ -20,7 +20,7 @@ fn clocks_held(n: u32) -> u32
 
 // How many nodes of the first `end` have a kept clock above c.
 fn past(clocks: [Epoch; 32], end: u32, c: Epoch) -> u32
-    requires { end ≤ mostNodes }
+    requires { end ≤ most_nodes }
     ensures { result ≡ count end (λ i. reached clocks (c.0 + 1) i) }
 {
     let mut held: u32 = 0;

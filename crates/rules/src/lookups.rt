@@ -2,7 +2,7 @@
 
 ghost use Rattle.std.specs.Prelude.{◌≡◌};
 ghost use Rattle.pala.specs.Rules.{lower};
-ghost use Rattle.rules.specs.Columns.{markAt, number_at};
+ghost use Rattle.rules.specs.Columns.{mark_at, number_at};
 
 use table::rows::row_of;
 use table::{Epoch, Place};
@@ -17,7 +17,7 @@ fn number_at(col: &[u32; 65], p: Place) -> u32
 
 // A column's mark at a place; past the column, the root's.
 pub fn mark_at(marks: &[bool; 65], p: Place) -> bool
-    ensures { result ≡ markAt marks.now p.0 }
+    ensures { result ≡ mark_at marks.now p.0 }
 {
     let i = row_of(p);
     marks[i]

@@ -2,8 +2,8 @@
 
 ghost use Rattle.std.specs.Prelude.{min, ◌≡◌, ltb};
 ghost use Rattle.table.specs.Scan.{lowest, pick};
-ghost use Rattle.rules.specs.Columns.{markAt, number_at, openBy, places, votableBy};
-ghost use Rattle.rules.specs.Standing.{topsBy};
+ghost use Rattle.rules.specs.Columns.{mark_at, number_at, open_by, places, votable_by};
+ghost use Rattle.rules.specs.Standing.{tops_by};
 
 use crate::Top;
 use crate::chains::{firm, normal};
@@ -57,7 +57,7 @@ pub fn tops_of<'a>(
     marks: &'a [bool; 65],
     size: u32,
 ) -> Tops
-    ensures { result ≡ topsBy (min size places) (number_at parents.now) (number_at epochs.now) (markAt marks.now) }
+    ensures { result ≡ tops_by (min size places) (number_at parents.now) (number_at epochs.now) (mark_at marks.now) }
 {
     let mut fresh = Top {
         place: Place(0),
@@ -100,7 +100,7 @@ fn open_to_vote<'a>(
     bar: Epoch,
     p: Place,
 ) -> bool
-    ensures { result ≡ openBy (number_at parents.now) (number_at epochs.now) (markAt marks.now) local.0 bar.0 p.0 }
+    ensures { result ≡ open_by (number_at parents.now) (number_at epochs.now) (mark_at marks.now) local.0 bar.0 p.0 }
 {
     let e = epoch_at(epochs, p);
     if e.0 != local.0 {
@@ -124,7 +124,7 @@ pub fn ballot_of<'a>(
     bar: Epoch,
     voted: Epoch,
 ) -> Place
-    ensures { result ≡ record { 0 = lowest size (votableBy (number_at parents.now) (number_at epochs.now) (markAt marks.now) local.0 bar.0 voted.0) } }
+    ensures { result ≡ record { 0 = lowest size (votable_by (number_at parents.now) (number_at epochs.now) (mark_at marks.now) local.0 bar.0 voted.0) } }
 {
     if voted.0 == local.0 {
         return Place(size);

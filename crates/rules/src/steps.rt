@@ -3,8 +3,8 @@
 ghost use Rattle.std.specs.Prelude.{◌≡◌};
 ghost use Rattle.table.specs.Rows.{rows};
 ghost use Rattle.pala.specs.Rules.{ballot, freshest};
-ghost use Rattle.pala.specs.Steps.{freshEpoch};
-ghost use Rattle.rules.specs.Standing.{standingBy};
+ghost use Rattle.pala.specs.Steps.{fresh_epoch};
+ghost use Rattle.rules.specs.Standing.{standing_by};
 
 use crate::chains::descends;
 use crate::clocks::clock_of;
@@ -16,7 +16,7 @@ use table::{Epoch, Place, State};
 
 // "Freshest: the firm block of highest epoch; of equals the lowest place."
 pub fn freshest(s: State) -> Top
-    ensures { result ≡ record { place = record { 0 = freshest s.n (rows s) }; epoch = record { 0 = freshEpoch s } } }
+    ensures { result ≡ record { place = record { 0 = freshest s.n (rows s) }; epoch = record { 0 = fresh_epoch s } } }
 {
     let c = columns_of(s);
     let tops = tops_of(&c.parents, &c.epochs, &c.marks, c.size);
@@ -39,7 +39,7 @@ pub fn ballot(s: State) -> Place
 
 // All that the five steps need, of a table's columns and of what stands beside it: whoever has the state makes them from it where it is.
 pub fn standing(c: Columns, clocks: [Epoch; 32], n: u32, local: Epoch, kept: Place) -> Standing
-    ensures { result ≡ standingBy c clocks n local.0 kept.0 }
+    ensures { result ≡ standing_by c clocks n local.0 kept.0 }
 {
     let tops = tops_of(&c.parents, &c.epochs, &c.marks, c.size);
     let candidate = lower_at(&c.parents, tops.normal);

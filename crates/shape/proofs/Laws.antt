@@ -15,79 +15,79 @@ use Rattle.table.specs.declared.Block.{Block}
 use Rattle.table.specs.declared.State.{State}
 use Rattle.table.specs.Scan.{all_below, lowest}
 use Rattle.table.specs.Bytes.{same, zeros}
-use Rattle.table.specs.Rows.{capacity, mostNodes, blank, rows, at, hasVoter}
-use Rattle.table.proofs.Laws.{fails, not-both, same_test, allBelow-at, allBelow-all, lowest-is, lowest-none, lowest-le, lowest-hit, lowest-below, same_true, at_rows}
-use Rattle.pala.specs.Counts.{topEpoch, blockEpoch, nodes}
-use Rattle.pala.specs.Rules.{epochAt}
-use Rattle.pala.specs.Shape.{votersOk, blockOk, noVoters, isBlank, clocksOk, wellShaped}
+use Rattle.table.specs.Rows.{capacity, most_nodes, blank, rows, at, has_voter}
+use Rattle.table.proofs.Laws.{fails, not-both, same_test, all_below-at, all_below-all, lowest-is, lowest-none, lowest-le, lowest-hit, lowest-below, same_true, at_rows}
+use Rattle.pala.specs.Counts.{top_epoch, block_epoch, nodes}
+use Rattle.pala.specs.Rules.{epoch_at}
+use Rattle.pala.specs.Shape.{voters_ok, block_ok, no_voters, is_blank, clocks_ok, well_shaped}
 use Rattle.pala.proofs.Shapes
-use Rattle.shape.specs.Parts.{inOrder, row_ok, heldOk, unusedOk, apart, namesApart, key, nextLike}
+use Rattle.shape.specs.Parts.{in_order, row_ok, held_ok, unused_ok, apart, names_apart, key, next_like}
 
 -- ---- scans
 
 -- the first one taken by itself
-allBelow-front : (k : ℕ) (ok : ℕ → Bool) → all_below (suc k) ok ≡ (ok 0 && all_below k (λ i. ok (suc i)))
+all_below-front : (k : ℕ) (ok : ℕ → Bool) → all_below (suc k) ok ≡ (ok 0 && all_below k (λ i. ok (suc i)))
 unfolding all_below
-allBelow-front zero ok = sym (and-true (ok 0))
-allBelow-front (suc k) ok = ap (λ (t : Bool). t && ok (suc k)) (allBelow-front k ok) ∙ and_assoc (ok 0) (all_below k (λ i. ok (suc i))) (ok (suc k))
+all_below-front zero ok = sym (and-true (ok 0))
+all_below-front (suc k) ok = ap (λ (t : Bool). t && ok (suc k)) (all_below-front k ok) ∙ and_assoc (ok 0) (all_below k (λ i. ok (suc i))) (ok (suc k))
 
 pub zeros-below : (l : List ℕ) → zeros l ≡ all_below (length l) (λ i. eqb (get_or l i 0) 0)
 unfolding zeros all_below
 zeros-below [] = refl
-zeros-below (x ∷ l) = ap (λ (t : Bool). eqb x 0 && t) (zeros-below l) ∙ sym (allBelow-front (length l) (λ i. eqb (get_or (x ∷ l) i 0) 0))
+zeros-below (x ∷ l) = ap (λ (t : Bool). eqb x 0 && t) (zeros-below l) ∙ sym (all_below-front (length l) (λ i. eqb (get_or (x ∷ l) i 0) 0))
 
-noVoters-below : (l : List Bool) → noVoters l ≡ all_below (length l) (λ i. not (get_or l i false))
-unfolding noVoters all_below
-noVoters-below [] = refl
-noVoters-below (x ∷ l) = ap (λ (t : Bool). not x && t) (noVoters-below l) ∙ sym (allBelow-front (length l) (λ i. not (get_or (x ∷ l) i false)))
+no_voters-below : (l : List Bool) → no_voters l ≡ all_below (length l) (λ i. not (get_or l i false))
+unfolding no_voters all_below
+no_voters-below [] = refl
+no_voters-below (x ∷ l) = ap (λ (t : Bool). not x && t) (no_voters-below l) ∙ sym (all_below-front (length l) (λ i. not (get_or (x ∷ l) i false)))
 
 -- ---- rows
 
 -- no voter from number 0 on is no voter at all
-pub voters-none : (b : Block) → length b.voters ≡ mostNodes → votersOk 0 b ≡ noVoters b.voters
-unfolding votersOk hasVoter
+pub voters-none : (b : Block) → length b.voters ≡ most_nodes → voters_ok 0 b ≡ no_voters b.voters
+unfolding voters_ok has_voter
 voters-none b e =
     let ok : ℕ → Bool = λ i. not (get_or b.voters i false) in
-    let whole : all_below mostNodes ok ≡ noVoters b.voters = ap (λ (k : ℕ). all_below k ok) (sym e) ∙ sym (noVoters-below b.voters) in
-    same_test (all_below mostNodes (λ i. ltb i 0 || ok i)) (noVoters b.voters)
-    (λ h. sym whole ∙ allBelow-all mostNodes ok (λ i m. Shapes.from_at mostNodes 0 ok h i zero-le m))
-    (λ h. Shapes.from_all mostNodes 0 ok (λ i l m. allBelow-at mostNodes ok (whole ∙ h) i m))
+    let whole : all_below most_nodes ok ≡ no_voters b.voters = ap (λ (k : ℕ). all_below k ok) (sym e) ∙ sym (no_voters-below b.voters) in
+    same_test (all_below most_nodes (λ i. ltb i 0 || ok i)) (no_voters b.voters)
+    (λ h. sym whole ∙ all_below-all most_nodes ok (λ i m. Shapes.from_at most_nodes 0 ok h i zero-le m))
+    (λ h. Shapes.from_all most_nodes 0 ok (λ i l m. all_below-at most_nodes ok (whole ∙ h) i m))
 
 module _ (n up : ℕ) (b : Block) where
   pub record Order-tests : Type 0 where
     pub name : zeros b.name ≡ false
     pub parent : up < b.epoch.0
-    pub epoch : b.epoch.0 < topEpoch
-    pub voters : votersOk n b ≡ true
+    pub epoch : b.epoch.0 < top_epoch
+    pub voters : voters_ok n b ≡ true
 
-  pub order-tests : inOrder n up b ≡ true → Order-tests
-  unfolding inOrder blockEpoch
+  pub order-tests : in_order n up b ≡ true → Order-tests
+  unfolding in_order block_epoch
   order-tests h =
       let e = b.epoch.0 in
       let v = not (zeros b.name) in
       let w = ltb up e in
-      let x = ltb 0 e && ltb e topEpoch in
-      let y = votersOk n b in
+      let x = ltb 0 e && ltb e top_epoch in
+      let y = voters_ok n b in
       let vwx = Shapes.and_l (v && w && x) y h in
       let vw = Shapes.and_l (v && w) x vwx in
       record {
         name = not-true (zeros b.name) (Shapes.and_l v w vw);
         parent = ltb-true up e (Shapes.and_r v w vw);
-        epoch = ltb-true e topEpoch (Shapes.and_r (ltb 0 e) (ltb e topEpoch) (Shapes.and_r (v && w) x vwx));
+        epoch = ltb-true e top_epoch (Shapes.and_r (ltb 0 e) (ltb e top_epoch) (Shapes.and_r (v && w) x vwx));
         voters = Shapes.and_r (v && w && x) y h;
       }
 
-  pub order-of : Order-tests → inOrder n up b ≡ true
-  unfolding inOrder blockEpoch
+  pub order-of : Order-tests → in_order n up b ≡ true
+  unfolding in_order block_epoch
   order-of t =
       let e = b.epoch.0 in
       let v = not (zeros b.name) in
       let w = ltb up e in
-      let x = ltb 0 e && ltb e topEpoch in
-      let y = votersOk n b in
+      let x = ltb 0 e && ltb e top_epoch in
+      let y = voters_ok n b in
       Shapes.and_both (v && w && x) y
       (Shapes.and_both (v && w) x (Shapes.and_both v w (ap not t.name) (lt-ltb up e t.parent))
-      (Shapes.and_both (ltb 0 e) (ltb e topEpoch) (lt-ltb 0 e (omega (arith, t.parent))) (lt-ltb e topEpoch t.epoch)))
+      (Shapes.and_both (ltb 0 e) (ltb e top_epoch) (lt-ltb 0 e (omega (arith, t.parent))) (lt-ltb e top_epoch t.epoch)))
       t.voters
 
 -- a block whose parent isn't lower is not in order; of another its row and its parent's epoch tell
@@ -96,63 +96,63 @@ module _ (n : ℕ) (t : List Block) (p : ℕ) (b : Block) (is : b ≡ at t p) wh
   unfolding row_ok
   row_up l =
       let no : ltb (at t p).parent.0 p ≡ false = ap (λ (x : Block). ltb x.parent.0 p) (sym is) ∙ le-ltb b.parent.0 p l in
-      ap (λ (x : Bool). x && inOrder n (epochAt t (at t p).parent.0) (at t p)) no
+      ap (λ (x : Bool). x && in_order n (epoch_at t (at t p).parent.0) (at t p)) no
 
-  pub row-order : (e : ℕ) → e ≡ epochAt t b.parent.0 → b.parent.0 < p → row_ok n t p ≡ inOrder n e b
+  pub row-order : (e : ℕ) → e ≡ epoch_at t b.parent.0 → b.parent.0 < p → row_ok n t p ≡ in_order n e b
   unfolding row_ok
   row-order e up l =
       let yes : ltb b.parent.0 p ≡ true = lt-ltb b.parent.0 p l in
-      ap (λ (x : Block). ltb x.parent.0 p && inOrder n (epochAt t x.parent.0) x) (sym is)
-      ∙ ap (λ (x : Bool). x && inOrder n (epochAt t b.parent.0) b) yes
-      ∙ ap (λ (x : ℕ). inOrder n x b) (sym up)
+      ap (λ (x : Block). ltb x.parent.0 p && in_order n (epoch_at t x.parent.0) x) (sym is)
+      ∙ ap (λ (x : Bool). x && in_order n (epoch_at t b.parent.0) b) yes
+      ∙ ap (λ (x : ℕ). in_order n x b) (sym up)
 
-pub row-tests : (n : ℕ) (t : List Block) (p : ℕ) → row_ok n t p ≡ true → ((at t p).parent.0 < p) × Order-tests n (epochAt t (at t p).parent.0) (at t p)
+pub row-tests : (n : ℕ) (t : List Block) (p : ℕ) → row_ok n t p ≡ true → ((at t p).parent.0 < p) × Order-tests n (epoch_at t (at t p).parent.0) (at t p)
 unfolding row_ok
 row-tests n t p h =
     let b = at t p in
-    let e = epochAt t b.parent.0 in
-    (ltb-true b.parent.0 p (Shapes.and_l (ltb b.parent.0 p) (inOrder n e b) h), order-tests n e b (Shapes.and_r (ltb b.parent.0 p) (inOrder n e b) h))
+    let e = epoch_at t b.parent.0 in
+    (ltb-true b.parent.0 p (Shapes.and_l (ltb b.parent.0 p) (in_order n e b) h), order-tests n e b (Shapes.and_r (ltb b.parent.0 p) (in_order n e b) h))
 
 positive : (p : ℕ) → eqb p 0 ≡ false → 0 < p
 positive zero e = absurd (true≢false (sym (eq-eqb 0 0 refl) ∙ e))
 positive (suc p) e = omega arith
 
 module _ (s : State) where
-  pub held_at : heldOk s ≡ true → (p : ℕ) → 0 < p → p ≤ s.count → row_ok s.n (rows s) p ≡ true
-  unfolding heldOk
+  pub held_at : held_ok s ≡ true → (p : ℕ) → 0 < p → p ≤ s.count → row_ok s.n (rows s) p ≡ true
+  unfolding held_ok
   held_at h p l m =
-      Shapes.or_r (eqb p 0) (row_ok s.n (rows s) p) (allBelow-at (suc s.count) (λ i. eqb i 0 || row_ok s.n (rows s) i) h p (omega arith))
+      Shapes.or_r (eqb p 0) (row_ok s.n (rows s) p) (all_below-at (suc s.count) (λ i. eqb i 0 || row_ok s.n (rows s) i) h p (omega arith))
       (ne_eqb p 0 (λ e. omega arith))
 
-  pub held_all : ((p : ℕ) → 0 < p → p ≤ s.count → row_ok s.n (rows s) p ≡ true) → heldOk s ≡ true
-  unfolding heldOk
+  pub held_all : ((p : ℕ) → 0 < p → p ≤ s.count → row_ok s.n (rows s) p ≡ true) → held_ok s ≡ true
+  unfolding held_ok
   held_all h =
-      allBelow-all (suc s.count) (λ i. eqb i 0 || row_ok s.n (rows s) i)
+      all_below-all (suc s.count) (λ i. eqb i 0 || row_ok s.n (rows s) i)
       (λ p m. Shapes.or-of (eqb p 0) (row_ok s.n (rows s) p) (λ e. h p (omega (arith, positive p e)) (omega arith)))
 
-  pub held-fails : (p : ℕ) → 0 < p → p ≤ s.count → row_ok s.n (rows s) p ≡ false → heldOk s ≡ false
-  held-fails p l m f = fails (heldOk s) (λ h. not-both (held_at h p l m) f)
+  pub held-fails : (p : ℕ) → 0 < p → p ≤ s.count → row_ok s.n (rows s) p ≡ false → held_ok s ≡ false
+  held-fails p l m f = fails (held_ok s) (λ h. not-both (held_at h p l m) f)
 
-  pub unused-at : unusedOk s ≡ true → (p : ℕ) → (p ≡ 0) ⊎ (s.count < p) → p ≤ capacity → isBlank (get_or s.blocks p blank) ≡ true
-  unfolding unusedOk
+  pub unused-at : unused_ok s ≡ true → (p : ℕ) → (p ≡ 0) ⊎ (s.count < p) → p ≤ capacity → is_blank (get_or s.blocks p blank) ≡ true
+  unfolding unused_ok
   unused-at h p u l =
-      Shapes.or_r (ltb 0 p && leb p s.count) (isBlank (get_or s.blocks p blank))
-      (allBelow-at (suc capacity) (λ i. ltb 0 i && leb i s.count || isBlank (get_or s.blocks i blank)) h p (omega arith))
+      Shapes.or_r (ltb 0 p && leb p s.count) (is_blank (get_or s.blocks p blank))
+      (all_below-at (suc capacity) (λ i. ltb 0 i && leb i s.count || is_blank (get_or s.blocks i blank)) h p (omega arith))
       (fails (ltb 0 p && leb p s.count) (λ y. not-held p u (ltb-true 0 p (Shapes.and_l (ltb 0 p) (leb p s.count) y)) (leb-true p s.count (Shapes.and_r (ltb 0 p) (leb p s.count) y))))
     where
       not-held : (p : ℕ) → (p ≡ 0) ⊎ (s.count < p) → 0 < p → p ≤ s.count → ⊥
       not-held p (inl z) l m = omega arith
       not-held p (inr z) l m = omega arith
 
-  pub unused-all : ((p : ℕ) → (p ≡ 0) ⊎ (s.count < p) → p ≤ capacity → isBlank (get_or s.blocks p blank) ≡ true) → unusedOk s ≡ true
-  unfolding unusedOk
+  pub unused-all : ((p : ℕ) → (p ≡ 0) ⊎ (s.count < p) → p ≤ capacity → is_blank (get_or s.blocks p blank) ≡ true) → unused_ok s ≡ true
+  unfolding unused_ok
   unused-all h =
-      allBelow-all (suc capacity) (λ i. ltb 0 i && leb i s.count || isBlank (get_or s.blocks i blank))
-      (λ p m. Shapes.or-of (ltb 0 p && leb p s.count) (isBlank (get_or s.blocks p blank))
+      all_below-all (suc capacity) (λ i. ltb 0 i && leb i s.count || is_blank (get_or s.blocks i blank))
+      (λ p m. Shapes.or-of (ltb 0 p && leb p s.count) (is_blank (get_or s.blocks p blank))
       (λ e. ⊎_elim (λ z. absurd (not-both (Shapes.and_both (ltb 0 p) (leb p s.count) (lt-ltb 0 p z.0) (le-leb p s.count z.1)) e)) (λ z. h p z (omega arith)) (Shapes.held-or-unused s.count p)))
 
-  pub unused-fails : (p : ℕ) → (p ≡ 0) ⊎ (s.count < p) → p ≤ capacity → isBlank (get_or s.blocks p blank) ≡ false → unusedOk s ≡ false
-  unused-fails p u l f = fails (unusedOk s) (λ h. not-both (unused-at h p u l) f)
+  pub unused-fails : (p : ℕ) → (p ≡ 0) ⊎ (s.count < p) → p ≤ capacity → is_blank (get_or s.blocks p blank) ≡ false → unused_ok s ≡ false
+  unused-fails p u l f = fails (unused_ok s) (λ h. not-both (unused-at h p u l) f)
 
 -- ---- names
 
@@ -173,8 +173,8 @@ module _ (keys : List ℕ) (from p : ℕ) where
   unlike i f = fails (like i) (λ h. f (eqb-true (get_or keys i 0) (get_or keys p 0) (Shapes.and_r (leb from i) (eqb (get_or keys i 0) (get_or keys p 0)) h)))
 
   -- the first place from `from` on that has p's key, p itself at the last
-  pub next-is : (w : ℕ) → from ≤ w → w ≤ p → get_or keys w 0 ≡ get_or keys p 0 → ((i : ℕ) → from ≤ i → i < w → get_or keys i 0 ≡ get_or keys p 0 → ⊥) → nextLike keys from p ≡ w
-  unfolding nextLike like
+  pub next-is : (w : ℕ) → from ≤ w → w ≤ p → get_or keys w 0 ≡ get_or keys p 0 → ((i : ℕ) → from ≤ i → i < w → get_or keys i 0 ≡ get_or keys p 0 → ⊥) → next_like keys from p ≡ w
+  unfolding next_like like
   next-is w l m e below =
       let before : (i : ℕ) → i < w → like i ≡ false =
       λ i k. elim (dec_le from i) [ yes y ↦ unlike i (below i y k) | no y ↦ ap (λ (t : Bool). t && eqb (get_or keys i 0) (get_or keys p 0)) (lt-leb from i (omega arith)) ] in
@@ -183,38 +183,38 @@ module _ (keys : List ℕ) (from p : ℕ) where
         | no y ↦ lowest-none p like (λ i k. before i (omega arith)) ∙ omega arith
       ]
 
-  pub next_le : nextLike keys from p ≤ p
-  unfolding nextLike like
+  pub next_le : next_like keys from p ≤ p
+  unfolding next_like like
   next_le = lowest-le p like
 
-  pub next-from : from ≤ p → from ≤ nextLike keys from p
-  unfolding nextLike like
+  pub next-from : from ≤ p → from ≤ next_like keys from p
+  unfolding next_like like
   next-from l =
       elim (dec_lt (lowest p like) p) [
         | yes y ↦ leb-true from (lowest p like) (Shapes.and_l (leb from (lowest p like)) (eqb (get_or keys (lowest p like) 0) (get_or keys p 0)) (lowest-hit p like y))
         | no y ↦ omega arith
       ]
 
-  pub next-below : (i : ℕ) → from ≤ i → i < nextLike keys from p → get_or keys i 0 ≡ get_or keys p 0 → ⊥
-  unfolding nextLike like
+  pub next-below : (i : ℕ) → from ≤ i → i < next_like keys from p → get_or keys i 0 ≡ get_or keys p 0 → ⊥
+  unfolding next_like like
   next-below i l m e =
       not-both (Shapes.and_both (leb from i) (eqb (get_or keys i 0) (get_or keys p 0)) (le-leb from i l) (eq-eqb (get_or keys i 0) (get_or keys p 0) e)) (lowest-below p like i m)
 
 module _ (s : State) where
-  pub names_at : namesApart s ≡ true → (p q : ℕ) → p ≤ s.count → q < p → same (at (rows s) q).name (at (rows s) p).name ≡ false
-  unfolding namesApart apart
+  pub names_at : names_apart s ≡ true → (p q : ℕ) → p ≤ s.count → q < p → same (at (rows s) q).name (at (rows s) p).name ≡ false
+  unfolding names_apart apart
   names_at h p q l m =
       let below : ℕ → Bool = λ r. not (same (at (rows s) r).name (at (rows s) p).name) in
-      not-true (same (at (rows s) q).name (at (rows s) p).name) (allBelow-at p below (allBelow-at (suc s.count) (λ i. apart (rows s) i) h p (omega arith)) q m)
+      not-true (same (at (rows s) q).name (at (rows s) p).name) (all_below-at p below (all_below-at (suc s.count) (λ i. apart (rows s) i) h p (omega arith)) q m)
 
-  pub names-all : ((p q : ℕ) → p ≤ s.count → q < p → same (at (rows s) q).name (at (rows s) p).name ≡ false) → namesApart s ≡ true
-  unfolding namesApart apart
+  pub names-all : ((p q : ℕ) → p ≤ s.count → q < p → same (at (rows s) q).name (at (rows s) p).name ≡ false) → names_apart s ≡ true
+  unfolding names_apart apart
   names-all h =
-      allBelow-all (suc s.count) (λ i. apart (rows s) i)
-      (λ p l. allBelow-all p (λ r. not (same (at (rows s) r).name (at (rows s) p).name)) (λ q m. ap not (h p q (omega arith) m)))
+      all_below-all (suc s.count) (λ i. apart (rows s) i)
+      (λ p l. all_below-all p (λ r. not (same (at (rows s) r).name (at (rows s) p).name)) (λ q m. ap not (h p q (omega arith) m)))
 
-  pub names-fail : (p q : ℕ) → p ≤ s.count → q < p → same (at (rows s) q).name (at (rows s) p).name ≡ true → namesApart s ≡ false
-  names-fail p q l m t = fails (namesApart s) (λ h. not-both t (names_at h p q l m))
+  pub names-fail : (p q : ℕ) → p ≤ s.count → q < p → same (at (rows s) q).name (at (rows s) p).name ≡ true → names_apart s ≡ false
+  names-fail p q l m t = fails (names_apart s) (λ h. not-both t (names_at h p q l m))
 
 -- the names that stand in the blocks are those of the rows
 pub names-of-rows : (s : State) (i j : ℕ) (d e : Block) → i ≤ s.count → j ≤ s.count → s.count < length s.blocks
@@ -235,7 +235,7 @@ module _ (s : State) (keys : List ℕ) (column : keys ≡ map (λ b. key b.name)
   pub passed : (from : ℕ)
       → ((i : ℕ) → i < from → same (at (rows s) i).name (at (rows s) p).name ≡ false)
       → (i : ℕ)
-      → i < nextLike keys from p
+      → i < next_like keys from p
       → same (at (rows s) i).name (at (rows s) p).name ≡ false
   passed from before i k =
       let low = next_le keys from p in
@@ -264,19 +264,19 @@ marked seen keys p e all =
 
 -- ---- the whole
 
-module _ (s : State) (h : wellShaped s ≡ true) where
-  pub shaped-unused : unusedOk s ≡ true
+module _ (s : State) (h : well_shaped s ≡ true) where
+  pub shaped-unused : unused_ok s ≡ true
   shaped-unused = unused-all s (Shapes.shaped-blank s h)
 
-  pub shaped-held : heldOk s ≡ true
-  unfolding epochAt
+  pub shaped-held : held_ok s ≡ true
+  unfolding epoch_at
   shaped-held =
       held_all s
       (λ p l m.
       let t = rows s in
       let ok = Shapes.shaped-block s h p l m in
-      row-order s.n t p (at t p) refl (epochAt t (at t p).parent.0) refl (Shapes.block-parent s.n t p ok)
-      ∙ order-of s.n (epochAt t (at t p).parent.0) (at t p)
+      row-order s.n t p (at t p) refl (epoch_at t (at t p).parent.0) refl (Shapes.block-parent s.n t p ok)
+      ∙ order-of s.n (epoch_at t (at t p).parent.0) (at t p)
       (record {
         name = Shapes.block-name s.n t p ok;
         parent = Shapes.block-parent-epoch s.n t p ok;
@@ -284,7 +284,7 @@ module _ (s : State) (h : wellShaped s ≡ true) where
         voters = Shapes.block-voters s.n t p ok;
       }))
 
-  pub shaped-names : namesApart s ≡ true
+  pub shaped-names : names_apart s ≡ true
   shaped-names = names-all s (λ p q l m. Shapes.block_apart s.n (rows s) p (Shapes.shaped-block s h p (omega arith) l) q m)
 
 -- a state of which all but the names has been seen is well shaped where the names are apart
@@ -293,14 +293,14 @@ pub shaped-by-names : (s : State)
     → s.count ≤ capacity
     → s.kept.0 ≤ s.count
     → 0 < s.local.0
-    → clocksOk s.n s.clocks ≡ true
-    → unusedOk s ≡ true
-    → heldOk s ≡ true
-    → namesApart s ≡ wellShaped s
-unfolding epochAt
+    → clocks_ok s.n s.clocks ≡ true
+    → unused_ok s ≡ true
+    → held_ok s ≡ true
+    → names_apart s ≡ well_shaped s
+unfolding epoch_at
 shaped-by-names s numbers count kept local clocks unused held =
     let t = rows s in
-    same_test (namesApart s) (wellShaped s)
+    same_test (names_apart s) (well_shaped s)
     (λ names.
     Shapes.shaped_of s (Shapes.nodes-are s.n s.own.0 numbers) count kept local (Shapes.clocks-are s.n s.clocks clocks)
     (λ p l m. held-block p l m (held_at s held p l m) (names_at s names p)) (unused-at s unused))
@@ -311,7 +311,7 @@ shaped-by-names s numbers count kept local clocks unused held =
         → p ≤ s.count
         → row_ok s.n (rows s) p ≡ true
         → ((q : ℕ) → p ≤ s.count → q < p → same (at (rows s) q).name (at (rows s) p).name ≡ false)
-        → blockOk s.n (rows s) p ≡ true
+        → block_ok s.n (rows s) p ≡ true
     held-block p l m row names =
         let t = rows s in
         let b = at t p in

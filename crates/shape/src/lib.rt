@@ -8,7 +8,7 @@ mod places;
 
 ghost use Rattle.std.specs.Prelude.{◌≡◌};
 ghost use Rattle.pala.specs.Counts.{nodes};
-ghost use Rattle.pala.specs.Shape.{wellShaped};
+ghost use Rattle.pala.specs.Shape.{well_shaped};
 
 use clocks::clocks_ok;
 use names::names_apart;
@@ -31,7 +31,7 @@ pub fn nodes(n: u32, own: NodeNo) -> bool
 
 // "A state is well shaped when n is 1 to 32, own number below n, at most 64 blocks, .."
 pub fn well_shaped(s: State) -> bool
-    ensures { result ≡ wellShaped s }
+    ensures { result ≡ well_shaped s }
 {
     let n = s.n;
     let own = s.own;

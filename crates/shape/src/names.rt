@@ -2,7 +2,7 @@
 
 ghost use Rattle.std.specs.Prelude.{map, ◌≡◌, ◌≤◌, ◌<◌};
 ghost use Rattle.table.specs.Rows.{capacity};
-ghost use Rattle.shape.specs.Parts.{key, namesApart, nextLike};
+ghost use Rattle.shape.specs.Parts.{key, names_apart, next_like};
 
 use table::names::same_name;
 use table::{CAPACITY, Place, State};
@@ -61,7 +61,7 @@ fn keys_of(s: State) -> [u32; 65]
 // From a place up, the first that has p's key. The search ends at p itself, so that each turn has one test.
 fn next_like(keys: &[u32; 65], from: Place, p: Place) -> Place
     requires { (from.0 ≤ p.0) × (p.0 ≤ capacity) }
-    ensures { result.0 ≡ nextLike keys.now from.0 p.0 }
+    ensures { result.0 ≡ next_like keys.now from.0 p.0 }
 {
     let end = p.0 as usize;
     let sought = keys[end];
@@ -79,7 +79,7 @@ fn next_like(keys: &[u32; 65], from: Place, p: Place) -> Place
 // a p whose key has no mark yet has no such place.
 pub fn names_apart(s: State) -> bool
     requires { s.count ≤ capacity }
-    ensures { result ≡ namesApart s }
+    ensures { result ≡ names_apart s }
 {
     let keys = keys_of(s);
     let mut seen: [bool; 251] = [false; MARKS as usize];

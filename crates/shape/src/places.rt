@@ -3,8 +3,8 @@
 ghost use Rattle.std.specs.Prelude.{◌≡◌, ◌≤◌};
 ghost use Rattle.table.specs.Bytes.{zeros};
 ghost use Rattle.table.specs.Rows.{capacity};
-ghost use Rattle.pala.specs.Shape.{isBlank, votersOk};
-ghost use Rattle.shape.specs.Parts.{heldOk, inOrder, unusedOk};
+ghost use Rattle.pala.specs.Shape.{is_blank, voters_ok};
+ghost use Rattle.shape.specs.Parts.{held_ok, in_order, unused_ok};
 
 use table::{Block, CAPACITY, Epoch, MOST_NODES, State};
 
@@ -26,7 +26,7 @@ fn no_bytes(bytes: &[u8]) -> bool
 
 // "voters only below n". All are looked at, again many at a time.
 fn voters_ok(n: u32, b: Block) -> bool
-    ensures { result ≡ votersOk n b }
+    ensures { result ≡ voters_ok n b }
 {
     let mut good = true;
     let mut k: u32 = 0;
@@ -40,7 +40,7 @@ fn voters_ok(n: u32, b: Block) -> bool
 
 // Is it a row of zeros.
 fn blank_row(b: Block) -> bool
-    ensures { result ≡ isBlank b }
+    ensures { result ≡ is_blank b }
 {
     let name = b.name;
     let payload = b.payload;
@@ -61,7 +61,7 @@ fn blank_row(b: Block) -> bool
 
 // Is a block in order, as far as its row and its parent's epoch tell.
 fn in_order(n: u32, up: Epoch, b: Block) -> bool
-    ensures { result ≡ inOrder n up.0 b }
+    ensures { result ≡ in_order n up.0 b }
 {
     let name = b.name;
     let epoch = b.epoch.0;
@@ -81,7 +81,7 @@ fn in_order(n: u32, up: Epoch, b: Block) -> bool
 // Are the genesis's place and "unused table places" all zero.
 pub fn unused_ok(s: State) -> bool
     requires { s.count ≤ capacity }
-    ensures { result ≡ unusedOk s }
+    ensures { result ≡ unused_ok s }
 {
     let root = s.blocks[0];
     if !blank_row(root) {
@@ -102,7 +102,7 @@ pub fn unused_ok(s: State) -> bool
 // Are the blocks held in order, as far as each row and its parent's epoch tell; their names are compared elsewhere.
 pub fn held_ok(s: State) -> bool
     requires { s.count ≤ capacity }
-    ensures { result ≡ heldOk s }
+    ensures { result ≡ held_ok s }
 {
     let n = s.n;
     let last = s.count;

@@ -16,7 +16,7 @@ use lib.ListN.{length, get_or, replicate, length-take, length-replicate, length-
 use lib.Seq.{ext_get_or, get_or-take, set_out}
 use Rattle.table.specs.Scan.{pick, all_below, count, lowest, highest, greatest}
 use Rattle.table.specs.Bytes.{same, zeros}
-use Rattle.table.specs.Rows.{capacity, row_of, rows, at, size, blank, find, hasVoter, withVoter, votes, mostNodes}
+use Rattle.table.specs.Rows.{capacity, row_of, rows, at, size, blank, find, has_voter, with_voter, votes, most_nodes}
 use Rattle.table.specs.declared.Block.{Block}
 use Rattle.table.specs.declared.rows.Found.{Found}
 use Rattle.table.specs.declared.State.{State}
@@ -63,22 +63,22 @@ pick-case P false x y f g = g refl
 
 -- ---- all below
 
-pub allBelow-step : (k : ℕ) (ok : ℕ → Bool) → all_below (k + 1) ok ≡ (all_below k ok && ok k)
+pub all_below-step : (k : ℕ) (ok : ℕ → Bool) → all_below (k + 1) ok ≡ (all_below k ok && ok k)
 unfolding all_below
-allBelow-step k ok = rw add-one
+all_below-step k ok = rw add-one
 
-pub allBelow-at : (k : ℕ) (ok : ℕ → Bool) → all_below k ok ≡ true → (i : ℕ) → i < k → ok i ≡ true
+pub all_below-at : (k : ℕ) (ok : ℕ → Bool) → all_below k ok ≡ true → (i : ℕ) → i < k → ok i ≡ true
 unfolding all_below
-allBelow-at zero ok h i l = absurd (not-suc-le-zero l)
-allBelow-at (suc k) ok h i l =
+all_below-at zero ok h i l = absurd (not-suc-le-zero l)
+all_below-at (suc k) ok h i l =
     let both = (and-eq-true_iff (all_below k ok) (ok k)).0 h in
-    below_more (λ j. ok j ≡ true) k (allBelow-at k ok both.0) both.1 i (omega arith)
+    below_more (λ j. ok j ≡ true) k (all_below-at k ok both.0) both.1 i (omega arith)
 
-pub allBelow-all : (k : ℕ) (ok : ℕ → Bool) → ((i : ℕ) → i < k → ok i ≡ true) → all_below k ok ≡ true
+pub all_below-all : (k : ℕ) (ok : ℕ → Bool) → ((i : ℕ) → i < k → ok i ≡ true) → all_below k ok ≡ true
 unfolding all_below
-allBelow-all zero ok h = refl
-allBelow-all (suc k) ok h =
-    (and-eq-true_iff (all_below k ok) (ok k)).1 (allBelow-all k ok (λ i l. h i (omega arith)), h k (le_refl (suc k)))
+all_below-all zero ok h = refl
+all_below-all (suc k) ok h =
+    (and-eq-true_iff (all_below k ok) (ok k)).1 (all_below-all k ok (λ i l. h i (omega arith)), h k (le_refl (suc k)))
 
 -- ---- count
 
@@ -413,13 +413,13 @@ found-is t name p b e h =
 
 -- ---- voters
 
-pub voter-past : (b : Block) (i n : ℕ) → length b.voters ≡ n → n ≤ i → hasVoter b i ≡ false
-unfolding hasVoter
+pub voter-past : (b : Block) (i n : ℕ) → length b.voters ≡ n → n ≤ i → has_voter b i ≡ false
+unfolding has_voter
 voter-past b i n e h = get_or-eq_default b.voters false (omega arith)
 
-pub withVoter-past : (b : Block) (i n : ℕ) → length b.voters ≡ n → n ≤ i → withVoter b i ≡ b
-unfolding withVoter
-withVoter-past b i n e h =
+pub with_voter-past : (b : Block) (i n : ℕ) → length b.voters ≡ n → n ≤ i → with_voter b i ≡ b
+unfolding with_voter
+with_voter-past b i n e h =
     ap
     (λ (v : List Bool). record {
       name = b.name;
@@ -430,6 +430,6 @@ withVoter-past b i n e h =
     })
     (set_out b.voters i true (omega arith))
 
-pub votes-count : (b : Block) (k : ℕ) → k ≡ mostNodes → count k (hasVoter b) ≡ votes b
+pub votes-count : (b : Block) (k : ℕ) → k ≡ most_nodes → count k (has_voter b) ≡ votes b
 unfolding votes
-votes-count b k e = ap (λ (j : ℕ). count j (hasVoter b)) e
+votes-count b k e = ap (λ (j : ℕ). count j (has_voter b)) e

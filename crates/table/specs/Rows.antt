@@ -6,27 +6,27 @@ use Rattle.table.specs.declared.Block.{Block}
 use Rattle.table.specs.declared.State.{State}
 
 -- "Nodes: n from 1 to 32"
-abbrev pub mostNodes : ℕ
-mostNodes = 32
+abbrev pub most_nodes : ℕ
+most_nodes = 32
 
 -- "A node's table holds up to 64 further blocks"
 abbrev pub capacity : ℕ
 capacity = 64
 
 -- "32-byte name", "24 opaque payload bytes"
-abbrev pub nameBytes : ℕ
-nameBytes = 32
+abbrev pub name_bytes : ℕ
+name_bytes = 32
 
-abbrev pub payloadBytes : ℕ
-payloadBytes = 24
+abbrev pub payload_bytes : ℕ
+payload_bytes = 24
 
 -- a row of zeros: the genesis ("the all-zero name", "place 0, epoch 0"), and what an unused place holds
 unfoldable pub blank : Block
 blank =
     record {
-      name = replicate nameBytes 0;
-      payload = replicate payloadBytes 0;
-      voters = replicate mostNodes false;
+      name = replicate name_bytes 0;
+      payload = replicate payload_bytes 0;
+      voters = replicate most_nodes false;
       epoch = record { 0 = 0 };
       parent = record { 0 = 0 };
     }
@@ -55,17 +55,17 @@ unfolding lowest same at
 find t name = lowest (size t) (λ p. same (at t p).name name)
 
 -- "Beside each: the set of voters counted": is the node among them
-unfoldable pub hasVoter : Block → ℕ → Bool
-hasVoter b i = get_or b.voters i false
+unfoldable pub has_voter : Block → ℕ → Bool
+has_voter b i = get_or b.voters i false
 
 -- how many voters a block has
 unfoldable pub votes : Block → ℕ
-unfolding count hasVoter
-votes b = count mostNodes (λ i. hasVoter b i)
+unfolding count has_voter
+votes b = count most_nodes (λ i. has_voter b i)
 
 -- the block with one voter more
-unfoldable pub withVoter : Block → ℕ → Block
-withVoter b i =
+unfoldable pub with_voter : Block → ℕ → Block
+with_voter b i =
     record {
       name = b.name;
       payload = b.payload;
@@ -80,7 +80,7 @@ unfolding blank
 plain n own local =
     record {
       blocks = replicate (suc capacity) blank;
-      clocks = replicate mostNodes (record { 0 = 0 });
+      clocks = replicate most_nodes (record { 0 = 0 });
       n = n;
       own = record { 0 = own };
       local = record { 0 = local };
@@ -97,6 +97,6 @@ unfolding plain
 fresh n own = plain n own 1
 
 -- "an all-zero state, which every later call refuses with 1"
-unfoldable pub allZero : State
+unfoldable pub all_zero : State
 unfolding plain
-allZero = plain 0 0 0
+all_zero = plain 0 0 0

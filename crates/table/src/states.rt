@@ -1,7 +1,7 @@
 // The states that a gateway starts from.
 
 ghost use Rattle.std.specs.Prelude.{◌≡◌};
-ghost use Rattle.table.specs.Rows.{allZero, blank, fresh, plain};
+ghost use Rattle.table.specs.Rows.{all_zero, blank, fresh, plain};
 
 use crate::{Block, CAPACITY, Epoch, MOST_NODES, NAME_BYTES, NodeNo, PAYLOAD_BYTES, Place, State};
 
@@ -51,7 +51,7 @@ pub fn fresh(n: u32, own: NodeNo) -> State
 
 // "an all-zero state, which every later call refuses with 1"
 pub fn all_zero() -> State
-    ensures { result ≡ allZero }
+    ensures { result ≡ all_zero }
 {
     plain(0, NodeNo(0), Epoch(0))
 }

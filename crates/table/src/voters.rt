@@ -1,13 +1,13 @@
 // "Beside each: the set of voters counted."
 
 ghost use Rattle.std.specs.Prelude.{◌≡◌};
-ghost use Rattle.table.specs.Rows.{hasVoter, votes, withVoter};
+ghost use Rattle.table.specs.Rows.{has_voter, votes, with_voter};
 
 use crate::{Block, MOST_NODES, NodeNo};
 
 // Is the node among a block's voters; no number past the set is.
 pub fn has_voter(b: Block, who: NodeNo) -> bool
-    ensures { result ≡ hasVoter b who.0 }
+    ensures { result ≡ has_voter b who.0 }
 {
     let k = who.0;
     if MOST_NODES <= k {
@@ -19,7 +19,7 @@ pub fn has_voter(b: Block, who: NodeNo) -> bool
 
 // The block with one voter more; a number past the set changes nothing.
 pub fn with_voter(b: Block, who: NodeNo) -> Block
-    ensures { result ≡ withVoter b who.0 }
+    ensures { result ≡ with_voter b who.0 }
 {
     let mut next = b;
     let k = who.0;

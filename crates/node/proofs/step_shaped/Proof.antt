@@ -3,7 +3,7 @@ use mathlib.Core.Bool.{true}
 use mathlib.Core.Path.{◌≡◌, refl, sym, ◌∙◌}
 use borrow.Author.Rules.{rules}
 use borrow.Author.Tests.{not-false, not-true}
-use Rattle.pala.specs.Answers.{taken, lowestOf, shapedRows}
+use Rattle.pala.specs.Answers.{taken, lowest_of, shaped_rows}
 use Rattle.pala.specs.Step.{room}
 use Rattle.node.specs.Moves.{Granted}
 use Rattle.node.proofs.Calls.{call-refused, call-taken, out-off, row-torn, row-length, granted, decided-rows, decided-taken}
@@ -14,7 +14,7 @@ abbrev from : tie.After-decide-shaped → tie.Start
 from c = c.before.before.before.before.before
 
 -- the answer is the one decided
-answers : (c : tie.After-decide-shaped) → lowestOf (shapedRows room (from c).args.s (from c).args.rec.now (from c).args.out.now) ≡ c.decide-shaped.result.answer
+answers : (c : tie.After-decide-shaped) → lowest_of (shaped_rows room (from c).args.s (from c).args.rec.now (from c).args.out.now) ≡ c.decide-shaped.result.answer
 answers c = decided-rows _ _ (from c).requires _ c.before.if2.false c.decide-shaped.ensures
 
 takes : (c : tie.Else3) → taken c.before.before.decide-shaped.result.answer ≡ true

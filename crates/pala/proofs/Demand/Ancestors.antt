@@ -9,7 +9,7 @@ use native.Mathlib.Omega.{arith}
 use lib.Dec.{eqb, leb}
 use borrow.Author.Tests.{eqb-true, eq-eqb, leb-true, le-leb}
 use Rattle.table.specs.declared.Block.{Block}
-use Rattle.table.specs.Rows.{size, at, hasVoter, votes, mostNodes}
+use Rattle.table.specs.Rows.{size, at, has_voter, votes, most_nodes}
 use Rattle.table.proofs.Laws.{count-mono}
 use Rattle.pala.specs.Counts.{quorum}
 use Rattle.pala.specs.Rules.{parent_of, line, every, among, notarized, firm}
@@ -107,7 +107,7 @@ module _ {t u : List Block} (g : Grown t u) where
   pub grown-votes : (p : ℕ) → p < size t → votes (at t p) ≤ votes (at u p)
   unfolding votes
   grown-votes p h =
-      count-mono mostNodes (λ i. hasVoter (at t p) i) (λ i. hasVoter (at u p) i) (λ i l w. g.voters p i h w)
+      count-mono most_nodes (λ i. has_voter (at t p) i) (λ i. has_voter (at u p) i) (λ i l w. g.voters p i h w)
 
   pub grown-notarized : (n p : ℕ) → p < size t → notarized n t p ≡ true → notarized n u p ≡ true
   unfolding notarized

@@ -9,19 +9,19 @@ use lib.ListN.{get_or}
 use borrow.Author.Tests.{eqb-true}
 use Rattle.table.specs.declared.Block.{Block}
 use Rattle.table.specs.declared.State.{State}
-use Rattle.table.specs.Rows.{mostNodes, rows, size, at, hasVoter}
+use Rattle.table.specs.Rows.{most_nodes, rows, size, at, has_voter}
 use Rattle.pala.specs.Answers.{number, taken}
-use Rattle.pala.specs.Record.{senderOf, name_of, is, proposalHeard, voteHeard, proposeNow}
+use Rattle.pala.specs.Record.{sender_of, name_of, is, proposal_heard, vote_heard, propose_now}
 use Rattle.pala.specs.Rules.{parent_of}
 use Rattle.pala.specs.Step.{Outcome}
 use Rattle.pala.specs.Steps.{settled}
-use Rattle.pala.specs.Safety.{Run, eventAt, stateAt, table_at, outcomeAt, Honest, Cast, Held, Book, Fits, NoForgedVote, OneBlockOneName}
+use Rattle.pala.specs.Safety.{Run, event_at, state_at, table_at, outcome_at, Honest, Cast, Held, Book, Fits, NoForgedVote, OneBlockOneName}
 use Rattle.pala.specs.Events.{Taken, EachTaken, EventForm}
 use Rattle.pala.proofs.Grown.{Grown, grown-parent, grown-epoch}
 use Rattle.pala.proofs.Places.{parent-below}
 use Rattle.pala.proofs.Keeps.{Proper}
 use Rattle.pala.proofs.Demand.Healthy.{did-grown}
-use Rattle.pala.proofs.Demand.Runs.{call_at, effectAt, outcome-is, fresh-none, Moved, reached, at-moments, reached-same}
+use Rattle.pala.proofs.Demand.Runs.{call_at, effect_at, outcome-is, fresh-none, Moved, reached, at-moments, reached-same}
 use Rattle.pala.proofs.Demand.Changes.{new-place}
 use Rattle.pala.proofs.Demand.Casts.{cast-next, voter-cast}
 
@@ -37,17 +37,17 @@ grown-fits {book} {t} {u} p g pos h f =
           ∙ ap (λ x. (book x).parent) (sym (g.name p h));
     }
 
-module _ (n : ℕ) (honest : ℕ → Bool) (run : Run) (some : 1 ≤ n) (most : n ≤ mostNodes) (book : Book) (each : EachTaken n honest run book) where
+module _ (n : ℕ) (honest : ℕ → Bool) (run : Run) (some : 1 ≤ n) (most : n ≤ most_nodes) (book : Book) (each : EachTaken n honest run book) where
   -- what is to be shown of the table t of an honest gateway at a moment
   record Good (m : ℕ) (t : List Block) : Type 0 where
-    cast : (p j : ℕ) → Honest n honest j → Held t p → hasVoter (at t p) j ≡ true → Cast n run m j (at t p).name
+    cast : (p j : ℕ) → Honest n honest j → Held t p → has_voter (at t p) j ≡ true → Cast n run m j (at t p).name
     fits : (p : ℕ) → Held t p → Fits book t p
 
   good-later : (m : ℕ) (t : List Block) → Good m t → Good (suc m) t
   good-later m t g = record { cast = λ p j hj h v. cast-next m (g.cast p j hj h v); fits = g.fits }
 
   -- after a record taken at event m
-  good-took : (i : ℕ) → Honest n honest i → (m : ℕ) → Moved n run m i → Good m (rows (stateAt n run m i)) → Good (suc m) (rows (effectAt n run m i))
+  good-took : (i : ℕ) → Honest n honest i → (m : ℕ) → Moved n run m i → Good m (rows (state_at n run m i)) → Good (suc m) (rows (effect_at n run m i))
   unfolding taken settled rows
   good-took i hi m w g =
       record {
@@ -56,13 +56,13 @@ module _ (n : ℕ) (honest : ℕ → Bool) (run : Run) (some : 1 ≤ n) (most : 
       }
     where
       s : State
-      s = stateAt n run m i
+      s = state_at n run m i
 
       r : List ℕ
-      r = (eventAt run m).bytes
+      r = (event_at run m).bytes
 
       u : State
-      u = effectAt n run m i
+      u = effect_at n run m i
 
       proper : Proper s
       proper = (reached n i some most hi.0 run m).proper
@@ -70,7 +70,7 @@ module _ (n : ℕ) (honest : ℕ → Bool) (run : Run) (some : 1 ≤ n) (most : 
       grown : Grown (rows s) (rows u)
       grown = did-grown proper w.did
 
-      same : outcomeAt n run m ≡ call_at n run m i
+      same : outcome_at n run m ≡ call_at n run m i
       same = outcome-is n run m i w.its
 
       told : Taken n honest run book m
@@ -78,15 +78,15 @@ module _ (n : ℕ) (honest : ℕ → Bool) (run : Run) (some : 1 ≤ n) (most : 
           each m w.happened (subst (Honest n honest) (sym w.its) hi)
           (ap (λ (o : Outcome). number o.answer) same ∙ eqb-true (number (call_at n run m i).answer) 0 w.answered)
 
-      heard : (j : ℕ) → Honest n honest j → is voteHeard r ≡ true → j ≡ senderOf r → j ≢ i → Cast n run m j (name_of r)
+      heard : (j : ℕ) → Honest n honest j → is vote_heard r ≡ true → j ≡ sender_of r → j ≢ i → Cast n run m j (name_of r)
       heard j hj kind e _ =
-          subst (λ x. Cast n run m x (name_of r)) (sym e) (told.vote (eqb-true (get_or r 0 0) voteHeard kind) (subst (Honest n honest) e hj))
+          subst (λ x. Cast n run m x (name_of r)) (sym e) (told.vote (eqb-true (get_or r 0 0) vote_heard kind) (subst (Honest n honest) e hj))
 
-      kinds : (is proposalHeard r ≡ true) ⊎ (is proposeNow r ≡ true) → (get_or r 0 0 ≡ proposalHeard) ⊎ (get_or r 0 0 ≡ proposeNow)
-      kinds (inl x) = inl (eqb-true (get_or r 0 0) proposalHeard x)
-      kinds (inr x) = inr (eqb-true (get_or r 0 0) proposeNow x)
+      kinds : (is proposal_heard r ≡ true) ⊎ (is propose_now r ≡ true) → (get_or r 0 0 ≡ proposal_heard) ⊎ (get_or r 0 0 ≡ propose_now)
+      kinds (inl x) = inl (eqb-true (get_or r 0 0) proposal_heard x)
+      kinds (inr x) = inr (eqb-true (get_or r 0 0) propose_now x)
 
-      block : (p : ℕ) → Held (rows u) p → (p < size (rows s)) ⊎ (((is proposalHeard r ≡ true) ⊎ (is proposeNow r ≡ true)) × (p ≡ u.count))
+      block : (p : ℕ) → Held (rows u) p → (p < size (rows s)) ⊎ (((is proposal_heard r ≡ true) ⊎ (is propose_now r ≡ true)) × (p ≡ u.count))
           → Fits book (rows u) p
       block p h (inl l) = grown-fits p grown h.0 l (g.fits p (h.0, l))
       block p h (inr (kind, e)) =
@@ -112,7 +112,7 @@ by-event n honest run ep =
     record {
       some = ep.some;
       most = ep.most;
-      fewFaulty = ep.fewFaulty;
+      few_faulty = ep.few_faulty;
       cast = cast-by-event n honest run ep.some ep.most ep.book ep.each;
       book = ep.book;
       fits = fits-by-event n honest run ep.some ep.most ep.book ep.each;

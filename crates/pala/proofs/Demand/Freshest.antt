@@ -9,7 +9,7 @@ use native.Mathlib.Omega.{arith}
 use borrow.Author.Tests.{eqb-true, eq-eqb}
 use Rattle.table.specs.declared.Block.{Block}
 use Rattle.table.specs.Rows.{size}
-use Rattle.pala.specs.Rules.{epochAt, parent_of, firm, freshest, normal, freshestNormal, candidate}
+use Rattle.pala.specs.Rules.{epoch_at, parent_of, firm, freshest, normal, freshest_normal, candidate}
 use Rattle.table.proofs.Laws.{Wins, highest-passes, highest-wins}
 use Rattle.pala.proofs.Tests.{and_l, and_r, and_both}
 use Rattle.pala.proofs.Grown.{Grown, grown-parent, grown-epoch}
@@ -23,17 +23,17 @@ module _ (n : ℕ) (t : List Block) where
   freshest-firm =
       ⊎_elim (λ e. ap (firm n t) e ∙ firm-zero n t) (λ e. e.1) (highest-passes (size t) (λ p. firm n t p) _)
 
-  pub freshest-best : (p : ℕ) → p < size t → firm n t p ≡ true → epochAt t p ≤ epochAt t (freshest n t)
+  pub freshest-best : (p : ℕ) → p < size t → firm n t p ≡ true → epoch_at t p ≤ epoch_at t (freshest n t)
   unfolding freshest
   freshest-best p h e =
-      ⊎_elim (λ l. omega arith) (λ l. omega arith) (highest-wins (size t) (λ p. firm n t p) (λ p. epochAt t p) p h e)
+      ⊎_elim (λ l. omega arith) (λ l. omega arith) (highest-wins (size t) (λ p. firm n t p) (λ p. epoch_at t p) p h e)
 
 -- a grown table's freshest epoch is no lower
-pub freshest-grows : {t u : List Block} → Grown t u → (n : ℕ) → 0 < size t → epochAt t (freshest n t) ≤ epochAt u (freshest n u)
+pub freshest-grows : {t u : List Block} → Grown t u → (n : ℕ) → 0 < size t → epoch_at t (freshest n t) ≤ epoch_at u (freshest n u)
 freshest-grows {t} {u} g n h =
     let f : freshest n t < size t = freshest-in n t h in
-    let e : epochAt u (freshest n t) ≡ epochAt t (freshest n t) = grown-epoch g (freshest n t) f in
-    let b : epochAt u (freshest n t) ≤ epochAt u (freshest n u) =
+    let e : epoch_at u (freshest n t) ≡ epoch_at t (freshest n t) = grown-epoch g (freshest n t) f in
+    let b : epoch_at u (freshest n t) ≤ epoch_at u (freshest n u) =
     freshest-best n u (freshest n t) (omega (arith, g.longer)) (grown-firm g n (freshest n t) f (freshest-firm n t)) in
     omega arith
 
@@ -43,7 +43,7 @@ pub record FinalBy (n : ℕ) (t : List Block) (c : ℕ) : Type 0 where
   pub above : 0 < child
   pub within : child < size t
   pub firmly : firm n t child ≡ true
-  pub next : epochAt t child ≡ epochAt t (parent_of t child) + 1
+  pub next : epoch_at t child ≡ epoch_at t (parent_of t child) + 1
   pub parent : parent_of t child ≡ c
 
 -- the genesis, or the parent of a firm normal block
@@ -57,7 +57,7 @@ grown-final {t} {u} g {n} {c} f =
       above = f.above;
       within = omega (arith, f.within, g.longer);
       firmly = grown-firm g n f.child f.within f.firmly;
-      next = grown-epoch g f.child f.within ∙ f.next ∙ ap (λ e. e + 1) (sym (grown-epoch g (parent_of t f.child) in-t) ∙ ap (epochAt u) (sym same-parent));
+      next = grown-epoch g f.child f.within ∙ f.next ∙ ap (λ e. e + 1) (sym (grown-epoch g (parent_of t f.child) in-t) ∙ ap (epoch_at u) (sym same-parent));
       parent = same-parent ∙ f.parent;
     }
   where
@@ -82,36 +82,36 @@ module _ (n : ℕ) (t : List Block) where
   both p = firm n t p && normal t p
 
   top : ℕ
-  top = freshestNormal n t
+  top = freshest_normal n t
 
   found : (top ≡ 0) ⊎ ((top < size t) × (both top ≡ true))
-  unfolding top freshestNormal
+  unfolding top freshest_normal
   found = highest-passes (size t) both _
 
-  normal-next : (p : ℕ) → both p ≡ true → epochAt t p ≡ epochAt t (parent_of t p) + 1
+  normal-next : (p : ℕ) → both p ≡ true → epoch_at t p ≡ epoch_at t (parent_of t p) + 1
   unfolding normal
-  normal-next p e = eqb-true (epochAt t p) (epochAt t (parent_of t p) + 1) (and_r (firm n t p) (normal t p) e)
+  normal-next p e = eqb-true (epoch_at t p) (epoch_at t (parent_of t p) + 1) (and_r (firm n t p) (normal t p) e)
 
   -- ".. lowest place among equals"
-  normal-wins : (p : ℕ) → p < size t → both p ≡ true → Wins (epochAt t) top p
-  unfolding top freshestNormal
+  normal-wins : (p : ℕ) → p < size t → both p ≡ true → Wins (epoch_at t) top p
+  unfolding top freshest_normal
   normal-wins p h o = highest-wins (size t) both _ p h o
 
-  normal-best : (p : ℕ) → p < size t → firm n t p ≡ true → epochAt t p ≡ epochAt t (parent_of t p) + 1 → epochAt t p ≤ epochAt t top
+  normal-best : (p : ℕ) → p < size t → firm n t p ≡ true → epoch_at t p ≡ epoch_at t (parent_of t p) + 1 → epoch_at t p ≤ epoch_at t top
   unfolding normal
   normal-best p h f e =
       ⊎_elim (λ l. omega arith) (λ l. omega arith)
-      (normal-wins p h (and_both (firm n t p) (normal t p) f (eq-eqb (epochAt t p) (epochAt t (parent_of t p) + 1) e)))
+      (normal-wins p h (and_both (firm n t p) (normal t p) f (eq-eqb (epoch_at t p) (epoch_at t (parent_of t p) + 1) e)))
 
-  candidate-next : epochAt t top ≤ epochAt t (candidate n t) + 1
+  candidate-next : epoch_at t top ≤ epoch_at t (candidate n t) + 1
   unfolding candidate top
   candidate-next =
-      ⊎_elim (λ z. omega (arith, ap (λ p. epochAt t (parent_of t p)) z ∙ ap (epochAt t) (parent-zero t), ap (epochAt t) z))
+      ⊎_elim (λ z. omega (arith, ap (λ p. epoch_at t (parent_of t p)) z ∙ ap (epoch_at t) (parent-zero t), ap (epoch_at t) z))
       (λ w. omega (arith, normal-next top w.1)) found
 
-  pub candidate-latest : {c : ℕ} → FinalBy n t c → epochAt t c ≤ epochAt t (candidate n t)
+  pub candidate-latest : {c : ℕ} → FinalBy n t c → epoch_at t c ≤ epoch_at t (candidate n t)
   candidate-latest f =
-      omega (arith, normal-best f.child f.within f.firmly f.next, candidate-next, f.next, ap (epochAt t) f.parent)
+      omega (arith, normal-best f.child f.within f.firmly f.next, candidate-next, f.next, ap (epoch_at t) f.parent)
 
   pub candidate-kept : Kept n t (candidate n t)
   unfolding candidate top

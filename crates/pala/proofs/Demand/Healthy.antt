@@ -6,11 +6,11 @@ use mathlib.Core.Path.{◌≡◌, sym, ap, subst, subst₂, ◌∙◌}
 use lib.ListN.{set}
 use Rattle.table.specs.declared.Block.{Block}
 use Rattle.table.specs.declared.State.{State}
-use Rattle.table.specs.Rows.{rows, size, at, withVoter}
-use Rattle.pala.specs.Effects.{withBlock, withVote, withClock, effect}
+use Rattle.table.specs.Rows.{rows, size, at, with_voter}
+use Rattle.pala.specs.Effects.{with_block, with_vote, with_clock, effect}
 use Rattle.pala.specs.Rules.{candidate}
 use Rattle.pala.specs.Step.{step, room}
-use Rattle.pala.specs.Steps.{newKept, forward, settled}
+use Rattle.pala.specs.Steps.{new_kept, forward, settled}
 use Rattle.table.proofs.Laws.{pick-case}
 use Rattle.pala.proofs.Grown.{Grown}
 use Rattle.pala.proofs.Moves.{Did, added, counted, cast, clocked, Stepped, refused, took}
@@ -31,7 +31,7 @@ same-fields : {u v : State} → u ≡ v → (u.n ≡ v.n) × (u.own.0 ≡ v.own.
 same-fields e = (ap (λ (x : State). x.n) e, ap (λ (x : State). x.own.0) e, ap (λ (x : State). x.torn) e, ap (λ (x : State). x.kept.0) e)
 
 pub did-same : {s : State} {r : List ℕ} {u : State} → Did room s r u → (u.n ≡ s.n) × (u.own.0 ≡ s.own.0) × (u.torn ≡ s.torn) × (u.kept.0 ≡ s.kept.0)
-unfolding withBlock withVote withClock
+unfolding with_block with_vote with_clock
 did-same (added b proposed k w l e) = same-fields e
 did-same (counted k pos l below other e) = same-fields e
 did-same (cast k l v e) = same-fields e
@@ -39,10 +39,10 @@ did-same (clocked i c k2 k5 below e) = same-fields e
 
 module _ {s : State} (k : Proper s) where
   -- the table after a block, after a vote
-  pub after_block : {u : State} (b : Block) (proposed : ℕ) → room s.count ≡ true → u ≡ withBlock s b proposed → rows u ≡ rows s ++ (b ∷ [])
+  pub after_block : {u : State} (b : Block) (proposed : ℕ) → room s.count ≡ true → u ≡ with_block s b proposed → rows u ≡ rows s ++ (b ∷ [])
   after_block b proposed l e = ap rows e ∙ rows-added s k.sized.blocks k.shaped b proposed (not_full s.count l)
 
-  pub after-vote : {u : State} (p i voted : ℕ) → p < size (rows s) → u ≡ withVote s p i voted → rows u ≡ set (rows s) p (withVoter (at (rows s) p) i)
+  pub after-vote : {u : State} (p i voted : ℕ) → p < size (rows s) → u ≡ with_vote s p i voted → rows u ≡ set (rows s) p (with_voter (at (rows s) p) i)
   after-vote p i voted l e = ap rows e ∙ rows-voted s k.sized.blocks k.shaped p i voted l
 
   -- it only grows
@@ -56,7 +56,7 @@ did-kept h {u = u} d =
 
 -- "it is kept instead": the candidate may be kept
 settled-kept : (u : State) → KeptBy u → KeptBy (settled u)
-unfolding settled rows newKept
+unfolding settled rows new_kept
 settled-kept u k =
     pick-case (Kept u.n (rows u)) (forward u) (candidate u.n (rows u)) u.kept.0
     (λ _. candidate-kept u.n (rows u)) (λ _. k)

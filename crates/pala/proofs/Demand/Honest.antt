@@ -11,12 +11,12 @@ use Rattle.table.specs.declared.Block.{Block}
 use Rattle.table.specs.declared.State.{State}
 use Rattle.table.specs.Scan.{pick, count}
 use Rattle.table.specs.Bytes.{same}
-use Rattle.table.specs.Rows.{mostNodes, rows, size, at, hasVoter, votes, fresh}
-use Rattle.pala.specs.Counts.{quorum, noName}
+use Rattle.table.specs.Rows.{most_nodes, rows, size, at, has_voter, votes, fresh}
+use Rattle.pala.specs.Counts.{quorum, no_name}
 use Rattle.pala.specs.Effects.{picked, effect}
-use Rattle.pala.specs.Rules.{epochAt, parent_of, notarized}
+use Rattle.pala.specs.Rules.{epoch_at, parent_of, notarized}
 use Rattle.pala.specs.Steps.{settled}
-use Rattle.pala.specs.Safety.{Run, eventAt, stateAt, table_at, Honest, Cast, Held, Book, Premises}
+use Rattle.pala.specs.Safety.{Run, event_at, state_at, table_at, Honest, Cast, Held, Book, Premises}
 use Rattle.table.proofs.Laws.{pick_yes, pick_no, count_cut, same_refl, same_false, not-both}
 use Rattle.pala.proofs.Shapes.{block-voter}
 use Rattle.pala.proofs.Places.{parent-below}
@@ -27,45 +27,45 @@ use Rattle.pala.proofs.Demand.Ancestors.{notarized-votes}
 use Rattle.pala.proofs.Demand.Freshest.{Kept}
 use Rattle.pala.proofs.Demand.Sound.{Sound, shaped-sound, not_root}
 use Rattle.pala.proofs.Demand.Healthy.{Healthy}
-use Rattle.pala.proofs.Demand.Voting.{Logged, voteAt, Spoke, silent, spoke, did-spoke}
+use Rattle.pala.proofs.Demand.Voting.{Logged, vote_at, Spoke, silent, spoke, did-spoke}
 use Rattle.pala.proofs.Demand.Casts.{cast-later, kind_at, happened-at, its-at, taken_at, name-at}
 use Rattle.pala.proofs.Demand.Runs.{Next, stayed, moved, next, starts, fresh-epoch, reached, reached-same}
 use Rattle.pala.proofs.Demand.Names.{Faithful}
 
 -- the book's epoch and parent of a name; the genesis has epoch 0
-unfoldable pub bookEpoch : Book → List ℕ → ℕ
-bookEpoch book x = pick (same x noName) 0 (book x).epoch
+unfoldable pub book_epoch : Book → List ℕ → ℕ
+book_epoch book x = pick (same x no_name) 0 (book x).epoch
 
-unfoldable pub bookParent : Book → List ℕ → List ℕ
-bookParent book x = (book x).parent
+unfoldable pub book_parent : Book → List ℕ → List ℕ
+book_parent book x = (book x).parent
 
 module _ (n : ℕ) (honest : ℕ → Bool) (run : Run) (pr : Premises n honest run) where
   -- the book of the premises, as `Chains` reads it
   abbrev pub epoch : List ℕ → ℕ
-  epoch = bookEpoch pr.book
+  epoch = book_epoch pr.book
 
   abbrev pub parent : List ℕ → List ℕ
-  parent = bookParent pr.book
+  parent = book_parent pr.book
 
   -- every honest state is healthy, its table sound, its kept block the parent of a firm normal one
-  pub healthy : (m i : ℕ) → Honest n honest i → Healthy (stateAt n run m i)
+  pub healthy : (m i : ℕ) → Honest n honest i → Healthy (state_at n run m i)
   healthy m i hi = reached n i pr.some pr.most hi.0 run m
 
-  pub nodes-same : (m i : ℕ) → Honest n honest i → (stateAt n run m i).n ≡ n
+  pub nodes-same : (m i : ℕ) → Honest n honest i → (state_at n run m i).n ≡ n
   nodes-same m i hi = (reached-same n i pr.some pr.most hi.0 run m).0
 
   pub table-sound : (m i : ℕ) → Honest n honest i → Sound n (table_at n run m i)
   unfolding table_at
-  table-sound m i hi = subst (λ k. Sound k (rows (stateAt n run m i))) (nodes-same m i hi) (shaped-sound (stateAt n run m i) (healthy m i hi).proper)
+  table-sound m i hi = subst (λ k. Sound k (rows (state_at n run m i))) (nodes-same m i hi) (shaped-sound (state_at n run m i) (healthy m i hi).proper)
 
-  pub table_kept : (m i : ℕ) → Honest n honest i → Kept n (table_at n run m i) (stateAt n run m i).kept.0
+  pub table_kept : (m i : ℕ) → Honest n honest i → Kept n (table_at n run m i) (state_at n run m i).kept.0
   unfolding table_at
   table_kept m i hi =
-      subst (λ k. Kept k (rows (stateAt n run m i)) (stateAt n run m i).kept.0) (nodes-same m i hi) (healthy m i hi).kept
+      subst (λ k. Kept k (rows (state_at n run m i)) (state_at n run m i).kept.0) (nodes-same m i hi) (healthy m i hi).kept
 
   -- honest tables hold the book's blocks
   pub faithful : (m i : ℕ) → Honest n honest i → Faithful epoch parent n (table_at n run m i)
-  unfolding bookEpoch bookParent
+  unfolding book_epoch book_parent
   faithful m i hi =
       record {
         sound = sound;
@@ -79,14 +79,14 @@ module _ (n : ℕ) (honest : ℕ → Bool) (run : Run) (pr : Premises n honest r
       sound : Sound n t
       sound = table-sound m i hi
 
-      epochs : (p : ℕ) → p < size t → Dec (p ≡ 0) → epoch (at t p).name ≡ epochAt t p
+      epochs : (p : ℕ) → p < size t → Dec (p ≡ 0) → epoch (at t p).name ≡ epoch_at t p
       epochs p h (yes z) =
-          pick_yes (same (at t p).name noName) 0 (pr.book (at t p).name).epoch
-          (ap (λ x. same x noName) (ap (λ q. (at t q).name) z ∙ sound.rootName) ∙ same_refl noName)
-          ∙ sym (ap (epochAt t) z ∙ sound.rootEpoch)
+          pick_yes (same (at t p).name no_name) 0 (pr.book (at t p).name).epoch
+          (ap (λ x. same x no_name) (ap (λ q. (at t q).name) z ∙ sound.root_name) ∙ same_refl no_name)
+          ∙ sym (ap (epoch_at t) z ∙ sound.root_epoch)
       epochs p h (no z) =
           let pos : 0 < p = omega arith in
-          pick_no (same (at t p).name noName) 0 (pr.book (at t p).name).epoch (same_false (at t p).name noName (not_root sound p pos h))
+          pick_no (same (at t p).name no_name) 0 (pr.book (at t p).name).epoch (same_false (at t p).name no_name (not_root sound p pos h))
           ∙ sym (pr.fits m i p hi (pos, h)).epoch
 
   -- a name notarized in an honest table, and a name that an honest gateway votes for
@@ -105,18 +105,18 @@ module _ (n : ℕ) (honest : ℕ → Bool) (run : Run) (pr : Premises n honest r
     pub was : Cast n run moment i x
 
   -- the vote for a name, by the book
-  voteFor : List ℕ → Vote (List ℕ)
-  voteFor x = record { name = x; epoch = epoch x; parentEpoch = epoch (parent x) }
+  vote_for : List ℕ → Vote (List ℕ)
+  vote_for x = record { name = x; epoch = epoch x; parent_epoch = epoch (parent x) }
 
   -- by each moment an honest gateway's casts stand in a log that fits its numbers
   record Recorded (m i : ℕ) : Type 0 where
     log : List (Vote (List ℕ))
-    fits : Logged log (stateAt n run m i)
-    all : (x : List ℕ) → Cast n run m i x → In (voteFor x) log
+    fits : Logged log (state_at n run m i)
+    all : (x : List ℕ) → Cast n run m i x → In (vote_for x) log
 
   -- nothing was cast at the moment's own event
   quiet : (m i : ℕ) → ((x : List ℕ) (c : Cast n run (suc m) i x) → c.event ≡ m → ⊥) → (r : Recorded m i)
-      → Logged r.log (stateAt n run (suc m) i) → Recorded (suc m) i
+      → Logged r.log (state_at n run (suc m) i) → Recorded (suc m) i
   quiet m i never r l =
       record {
         log = r.log;
@@ -130,10 +130,10 @@ module _ (n : ℕ) (honest : ℕ → Bool) (run : Run) (pr : Premises n honest r
 
   -- the vote for a block of an honest table is the book's
   book-vote : (m i : ℕ) → Honest n honest i → (p : ℕ) → 0 < p → p < size (table_at n run m i)
-      → voteFor (at (table_at n run m i) p).name ≡ voteAt (table_at n run m i) p
-  unfolding voteFor voteAt
+      → vote_for (at (table_at n run m i) p).name ≡ vote_at (table_at n run m i) p
+  unfolding vote_for vote_at
   book-vote m i hi p pos h =
-      λ j. record { name = (at t p).name; epoch = f.epochs p h j; parentEpoch = up j }
+      λ j. record { name = (at t p).name; epoch = f.epochs p h j; parent_epoch = up j }
     where
       t : List Block
       t = table_at n run m i
@@ -141,7 +141,7 @@ module _ (n : ℕ) (honest : ℕ → Bool) (run : Run) (pr : Premises n honest r
       f : Faithful epoch parent n t
       f = faithful m i hi
 
-      up : epoch (parent (at t p).name) ≡ epochAt t (parent_of t p)
+      up : epoch (parent (at t p).name) ≡ epoch_at t (parent_of t p)
       up = ap epoch (f.parents p pos h) ∙ f.epochs (parent_of t p) (omega (arith, parent-below t p pos))
 
   recorded : (m i : ℕ) → Honest n honest i → Recorded m i
@@ -158,27 +158,27 @@ module _ (n : ℕ) (honest : ℕ → Bool) (run : Run) (pr : Premises n honest r
   recorded (suc m) i hi = go (recorded m i hi) (next n i pr.some pr.most hi.0 run m)
     where
       s : State
-      s = stateAt n run m i
+      s = state_at n run m i
 
       t : List Block
       t = rows s
 
       r : List ℕ
-      r = (eventAt run m).bytes
+      r = (event_at run m).bytes
 
-      told : (w : Recorded m i) → stateAt n run (suc m) i ≡ settled (effect s r) → Spoke w.log s r (effect s r) → Recorded (suc m) i
+      told : (w : Recorded m i) → state_at n run (suc m) i ≡ settled (effect s r) → Spoke w.log s r (effect s r) → Recorded (suc m) i
       told w e (silent k l) =
           quiet m i (λ x c z. not-both (kind_at c z) k) w (subst (Logged w.log) (sym e) l)
       told w e (spoke k pos within l) =
           record {
-            log = voteAt t (picked s) ∷ w.log;
-            fits = subst (Logged (voteAt t (picked s) ∷ w.log)) (sym e) l;
+            log = vote_at t (picked s) ∷ w.log;
+            fits = subst (Logged (vote_at t (picked s) ∷ w.log)) (sym e) l;
             all = λ x c.
                 elim (dec_lt c.event m) [
                   | yes h ↦ Memᴰ.tail (w.all x (cast-later (suc m) m c h))
                   | no h ↦
                       let z : c.event ≡ m = omega (arith, c.before) in
-                      Memᴰ.head (sym (ap voteFor (name-at c z (healthy m i hi).proper)) ∙ book-vote m i hi (picked s) pos within)
+                      Memᴰ.head (sym (ap vote_for (name-at c z (healthy m i hi).proper)) ∙ book-vote m i hi (picked s) pos within)
                 ];
           }
 
@@ -189,10 +189,10 @@ module _ (n : ℕ) (honest : ℕ → Bool) (run : Run) (pr : Premises n honest r
 
   -- a notarized name's voters are a quorum of the n
   enough-voters : {x : List ℕ} (w : Notarized x)
-      → quorum n ≤ count n (λ j. hasVoter (at (table_at n run w.moment w.by) w.place) j)
+      → quorum n ≤ count n (λ j. has_voter (at (table_at n run w.moment w.by) w.place) j)
   unfolding votes
   enough-voters w =
-      subst (λ k. quorum n ≤ k) (count_cut mostNodes n (λ j. hasVoter b j) pr.most others)
+      subst (λ k. quorum n ≤ k) (count_cut most_nodes n (λ j. has_voter b j) pr.most others)
       (notarized-votes n t w.place w.held.0 w.enough)
     where
       t : List Block
@@ -201,12 +201,12 @@ module _ (n : ℕ) (honest : ℕ → Bool) (run : Run) (pr : Premises n honest r
       b : Block
       b = at t w.place
 
-      others : (j : ℕ) → n ≤ j → j < mostNodes → hasVoter b j ≡ false
+      others : (j : ℕ) → n ≤ j → j < most_nodes → has_voter b j ≡ false
       others = block-voter n t w.place ((table-sound w.moment w.by w.honestly).block w.place w.held.0 w.held.1)
 
   -- a voter that an honest table shows had cast the vote
   voted : {x : List ℕ} (w : Notarized x) (j : ℕ) → Honest n honest j
-      → hasVoter (at (table_at n run w.moment w.by) w.place) j ≡ true → VotedFor j x
+      → has_voter (at (table_at n run w.moment w.by) w.place) j ≡ true → VotedFor j x
   voted w j hj v =
       record {
         honestly = hj;
@@ -215,20 +215,20 @@ module _ (n : ℕ) (honest : ℕ → Bool) (run : Run) (pr : Premises n honest r
       }
 
   -- a vote that was cast stands in the log of the whole run
-  in-log : {i : ℕ} {x : List ℕ} (hi : Honest n honest i) → VotedFor i x → In (voteFor x) (recorded (length run) i hi).log
+  in-log : {i : ℕ} {x : List ℕ} (hi : Honest n honest i) → VotedFor i x → In (vote_for x) (recorded (length run) i hi).log
   in-log {i} {x} hi v =
       (recorded (length run) i hi).all x (cast-later v.moment (length run) v.was v.was.happened)
 
   -- what the votes of honest gateways keep to
-  pub keeps : Keeps noName epoch parent 0 VotedFor Notarized
-  unfolding voteFor
+  pub keeps : Keeps no_name epoch parent 0 VotedFor Notarized
+  unfolding vote_for
   keeps =
       record {
         shares = λ {x} {y} a b.
             let (j, below, f, g, h) =
-            overlap n (λ j. hasVoter (at (table_at n run a.moment a.by) a.place) j)
-            (λ j. hasVoter (at (table_at n run b.moment b.by) b.place) j) honest
-            (enough-voters a) (enough-voters b) pr.fewFaulty in
+            overlap n (λ j. has_voter (at (table_at n run a.moment a.by) a.place) j)
+            (λ j. has_voter (at (table_at n run b.moment b.by) b.place) j) honest
+            (enough-voters a) (enough-voters b) pr.few_faulty in
             (j, voted a j (below, h) f, voted b j (below, h) g);
         once = λ {i} {x} {y} v w e.
             (recorded (length run) i v.honestly).fits.once (in-log v.honestly v) (in-log v.honestly w) e;

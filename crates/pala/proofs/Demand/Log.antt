@@ -13,7 +13,7 @@ use Rattle.table.specs.Scan.{pick}
 pub record Vote (X : Type 0) : Type 0 where
   pub name : X
   pub epoch : ℕ
-  pub parentEpoch : ℕ
+  pub parent_epoch : ℕ
 
 module _ {X : Type 0} where
   -- the vote is in the log
@@ -25,13 +25,13 @@ module _ {X : Type 0} where
     -- one epoch, one vote
     pub once : {x y : Vote X} → In x log → In y log → x.epoch ≡ y.epoch → x.name ≡ y.name
     -- a vote more than k epochs later has no staler parent
-    pub monotone : {x y : Vote X} → In x log → In y log → x.epoch + k < y.epoch → x.parentEpoch ≤ y.parentEpoch
+    pub monotone : {x y : Vote X} → In x log → In y log → x.epoch + k < y.epoch → x.parent_epoch ≤ y.parent_epoch
     -- no vote is later than the last epoch voted in, and that no later than the local one
     pub last : {x : Vote X} → In x log → x.epoch ≤ voted
-    pub inTime : voted ≤ local
+    pub in_time : voted ≤ local
     -- no parent is fresher than the freshest block, nor, of a vote more than k epochs back, than the bar
-    pub known : {x : Vote X} → In x log → x.parentEpoch ≤ fresh
-    pub barred : {x : Vote X} → In x log → x.epoch + k < local → x.parentEpoch ≤ bar
+    pub known : {x : Vote X} → In x log → x.parent_epoch ≤ fresh
+    pub barred : {x : Vote X} → In x log → x.epoch + k < local → x.parent_epoch ≤ bar
 
   -- a node starts sane: it has cast nothing
   pub sane-start : {k : ℕ} → Sane k [] 1 0 0 0
@@ -40,7 +40,7 @@ module _ {X : Type 0} where
         once = λ m. absurd (Memᴰ.not-nil m);
         monotone = λ m. absurd (Memᴰ.not-nil m);
         last = λ m. absurd (Memᴰ.not-nil m);
-        inTime = omega arith;
+        in_time = omega arith;
         known = λ m. absurd (Memᴰ.not-nil m);
         barred = λ m. absurd (Memᴰ.not-nil m);
       }
@@ -55,25 +55,25 @@ module _ {X : Type 0} where
           once = s.once;
           monotone = s.monotone;
           last = s.last;
-          inTime = omega arith;
+          in_time = omega arith;
           known = λ m. omega (arith, s.known m);
           barred = λ m. go (ltb local local') refl m;
         }
       where
-        go : (b : Bool) → ltb local local' ≡ b → {x : Vote X} → In x log → x.epoch + k < local' → x.parentEpoch ≤ pick b fresh' bar
+        go : (b : Bool) → ltb local local' ≡ b → {x : Vote X} → In x log → x.epoch + k < local' → x.parent_epoch ≤ pick b fresh' bar
         go true e m h = omega (arith, s.known m)
         go false e m h = s.barred m (omega (arith, ltb-false))
 
     -- a vote in the local epoch, not yet voted in, on a parent no staler than the bar and no fresher than the freshest block
     module _
         (v : Vote X) (now : v.epoch ≡ local) (new : voted ≡ local → ⊥)
-        (low : bar ≤ v.parentEpoch) (high : v.parentEpoch ≤ fresh)
+        (low : bar ≤ v.parent_epoch) (high : v.parent_epoch ≤ fresh)
       where
         -- what it says of a vote equal to it
         cast-epoch : {x : Vote X} → x ≡ v → x.epoch ≡ local
         cast-epoch e = cc
 
-        cast-parent : {x : Vote X} → x ≡ v → x.parentEpoch ≡ v.parentEpoch
+        cast-parent : {x : Vote X} → x ≡ v → x.parent_epoch ≡ v.parent_epoch
         cast-parent e = cc
 
         -- beside it any vote of the log is of an earlier epoch, and one more than k back has no parent fresher than the bar
@@ -83,7 +83,7 @@ module _ {X : Type 0} where
         cast-once (Memᴰ.tail m) (Memᴰ.head e) h = absurd (omega (arith, cast-epoch e, s.last m))
         cast-once (Memᴰ.tail l) (Memᴰ.tail m) h = s.once l m h
 
-        cast-monotone : {x y : Vote X} → In x (v ∷ log) → In y (v ∷ log) → x.epoch + k < y.epoch → x.parentEpoch ≤ y.parentEpoch
+        cast-monotone : {x y : Vote X} → In x (v ∷ log) → In y (v ∷ log) → x.epoch + k < y.epoch → x.parent_epoch ≤ y.parent_epoch
         cast-monotone (Memᴰ.head d) (Memᴰ.head e) h = absurd (omega (arith, cast-epoch d, cast-epoch e))
         cast-monotone (Memᴰ.head d) (Memᴰ.tail m) h = absurd (omega (arith, cast-epoch d, s.last m))
         cast-monotone (Memᴰ.tail m) (Memᴰ.head e) h =
@@ -95,11 +95,11 @@ module _ {X : Type 0} where
         cast-last (Memᴰ.head e) = omega (arith, cast-epoch e)
         cast-last (Memᴰ.tail m) = omega (arith, s.last m)
 
-        cast-known : {x : Vote X} → In x (v ∷ log) → x.parentEpoch ≤ fresh
+        cast-known : {x : Vote X} → In x (v ∷ log) → x.parent_epoch ≤ fresh
         cast-known (Memᴰ.head e) = omega (arith, cast-parent e)
         cast-known (Memᴰ.tail m) = s.known m
 
-        cast-barred : {x : Vote X} → In x (v ∷ log) → x.epoch + k < local → x.parentEpoch ≤ bar
+        cast-barred : {x : Vote X} → In x (v ∷ log) → x.epoch + k < local → x.parent_epoch ≤ bar
         cast-barred (Memᴰ.head e) h = absurd (omega (arith, cast-epoch e))
         cast-barred (Memᴰ.tail m) h = s.barred m h
 
@@ -110,7 +110,7 @@ module _ {X : Type 0} where
               once = cast-once;
               monotone = cast-monotone;
               last = cast-last;
-              inTime = omega arith;
+              in_time = omega arith;
               known = cast-known;
               barred = cast-barred;
             }

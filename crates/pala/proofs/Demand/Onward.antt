@@ -7,11 +7,11 @@ use mathlib.Core.Path.{◌≡◌, sym, ap, subst, subst₂, ◌∙◌}
 use native.Mathlib.Omega.{arith}
 use Rattle.table.specs.declared.Block.{Block}
 use Rattle.table.specs.declared.State.{State}
-use Rattle.table.specs.Rows.{mostNodes, rows, size, at}
+use Rattle.table.specs.Rows.{most_nodes, rows, size, at}
 use Rattle.pala.specs.Rules.{parent_of, line, among, candidate, descends}
 use Rattle.pala.specs.Step.{room}
-use Rattle.pala.specs.Steps.{settled, newKept, forward}
-use Rattle.pala.specs.Safety.{Run, stateAt, table_at, shownAt, Begins}
+use Rattle.pala.specs.Steps.{settled, new_kept, forward}
+use Rattle.pala.specs.Safety.{Run, state_at, table_at, shown_at, Begins}
 use Rattle.table.proofs.Laws.{pick-case}
 use Rattle.pala.proofs.Grown.{Grown, grown-parent}
 use Rattle.pala.proofs.Places.{parent-below}
@@ -21,7 +21,7 @@ use Rattle.pala.proofs.Demand.Chains.{Goes}
 use Rattle.pala.proofs.Demand.Ancestors.{climb, on-zero, on-cases}
 use Rattle.pala.proofs.Demand.Freshest.{kept_in}
 use Rattle.pala.proofs.Demand.Healthy.{Healthy, did-grown, did-same}
-use Rattle.pala.proofs.Finals.{namesTo, names-zero, names-up}
+use Rattle.pala.proofs.Finals.{names_to, names-zero, names-up}
 use Rattle.pala.proofs.Demand.Runs.{reached, from-to}
 use Rattle.pala.proofs.Demand.Safety.{joined-begins, shown-names}
 
@@ -32,58 +32,58 @@ goes_then : (a b c : List (List ℕ)) → Goes a b → Goes b c → Goes a c
 goes_then a b c (x, d) (y, e) = (x ++ y, e ∙ ap (λ l. l ++ y) d ∙ append_assoc a x y)
 
 -- the names to a block go on from those to any on its line
-pub names-go : (t : List Block) (p a : ℕ) → among a (line t p) ≡ true → Goes (namesTo t a) (namesTo t p)
-names-go t p = climb t (λ p. (a : ℕ) → among a (line t p) ≡ true → Goes (namesTo t a) (namesTo t p)) base step p
+pub names-go : (t : List Block) (p a : ℕ) → among a (line t p) ≡ true → Goes (names_to t a) (names_to t p)
+names-go t p = climb t (λ p. (a : ℕ) → among a (line t p) ≡ true → Goes (names_to t a) (names_to t p)) base step p
   where
-    base : (a : ℕ) → among a (line t 0) ≡ true → Goes (namesTo t a) (namesTo t 0)
-    base a e = subst (λ q. Goes (namesTo t q) (namesTo t 0)) (on-zero t a e) (goes_same (namesTo t 0))
+    base : (a : ℕ) → among a (line t 0) ≡ true → Goes (names_to t a) (names_to t 0)
+    base a e = subst (λ q. Goes (names_to t q) (names_to t 0)) (on-zero t a e) (goes_same (names_to t 0))
 
-    step : (p : ℕ) → 0 < p → ((a : ℕ) → among a (line t (parent_of t p)) ≡ true → Goes (namesTo t a) (namesTo t (parent_of t p)))
-        → (a : ℕ) → among a (line t p) ≡ true → Goes (namesTo t a) (namesTo t p)
+    step : (p : ℕ) → 0 < p → ((a : ℕ) → among a (line t (parent_of t p)) ≡ true → Goes (names_to t a) (names_to t (parent_of t p)))
+        → (a : ℕ) → among a (line t p) ≡ true → Goes (names_to t a) (names_to t p)
     step p pos ih a e = go (on-cases t p a pos e)
       where
-        go : (p ≡ a) ⊎ (among a (line t (parent_of t p)) ≡ true) → Goes (namesTo t a) (namesTo t p)
-        go (inl z) = subst (λ q. Goes (namesTo t q) (namesTo t p)) z (goes_same (namesTo t p))
-        go (inr w) = goes_then (namesTo t a) (namesTo t (parent_of t p)) (namesTo t p) (ih a w) ((at t p).name ∷ [], names-up t p pos)
+        go : (p ≡ a) ⊎ (among a (line t (parent_of t p)) ≡ true) → Goes (names_to t a) (names_to t p)
+        go (inl z) = subst (λ q. Goes (names_to t q) (names_to t p)) z (goes_same (names_to t p))
+        go (inr w) = goes_then (names_to t a) (names_to t (parent_of t p)) (names_to t p) (ih a w) ((at t p).name ∷ [], names-up t p pos)
 
 -- a grown table has the same names to an old place
-pub grown-names : {t u : List Block} → Grown t u → (p : ℕ) → p < size t → namesTo u p ≡ namesTo t p
-grown-names {t} {u} g = climb t (λ p. p < size t → namesTo u p ≡ namesTo t p) (λ _. names-zero u ∙ sym (names-zero t)) step
+pub grown-names : {t u : List Block} → Grown t u → (p : ℕ) → p < size t → names_to u p ≡ names_to t p
+grown-names {t} {u} g = climb t (λ p. p < size t → names_to u p ≡ names_to t p) (λ _. names-zero u ∙ sym (names-zero t)) step
   where
-    step : (p : ℕ) → 0 < p → (parent_of t p < size t → namesTo u (parent_of t p) ≡ namesTo t (parent_of t p)) → p < size t → namesTo u p ≡ namesTo t p
+    step : (p : ℕ) → 0 < p → (parent_of t p < size t → names_to u (parent_of t p) ≡ names_to t (parent_of t p)) → p < size t → names_to u p ≡ names_to t p
     step p pos ih h =
         names-up u p pos
-        ∙ ap (λ q. namesTo u q ++ ((at u p).name ∷ [])) (grown-parent g p h)
+        ∙ ap (λ q. names_to u q ++ ((at u p).name ∷ [])) (grown-parent g p h)
         ∙ ap (λ l. l ++ ((at u p).name ∷ [])) (ih (omega (arith, parent-below t p pos)))
-        ∙ ap (λ x. namesTo t (parent_of t p) ++ (x ∷ [])) (g.name p h)
+        ∙ ap (λ x. names_to t (parent_of t p) ++ (x ∷ [])) (g.name p h)
         ∙ sym (names-up t p pos)
 
 -- the final names of a state
 abbrev finals : State → List (List ℕ)
-finals s = namesTo (rows s) s.kept.0
+finals s = names_to (rows s) s.kept.0
 
 -- "it is kept instead" only where it descends from what was kept
 settled-goes : (u : State) → Goes (finals u) (finals (settled u))
-unfolding settled newKept forward descends rows
+unfolding settled new_kept forward descends rows
 settled-goes u =
-    pick-case (λ k. Goes (finals u) (namesTo (rows u) k)) (forward u) (candidate u.n (rows u)) u.kept.0
+    pick-case (λ k. Goes (finals u) (names_to (rows u) k)) (forward u) (candidate u.n (rows u)) u.kept.0
     (λ e. names-go (rows u) (candidate u.n (rows u)) u.kept.0 e) (λ _. goes_same (finals u))
 
 -- a taken record leaves the final names alone, and then the five steps go on from them
 did-goes : {s : State} {r : List ℕ} {u : State} → Healthy s → Did room s r u → Goes (finals s) (finals (settled u))
 did-goes {s} {u = u} h d =
-    subst (λ l. Goes l (finals (settled u))) (ap (namesTo (rows u)) (did-same d).3 ∙ grown-names (did-grown h.proper d) s.kept.0 (kept_in (some-rows h.proper) h.kept))
+    subst (λ l. Goes l (finals (settled u))) (ap (names_to (rows u)) (did-same d).3 ∙ grown-names (did-grown h.proper d) s.kept.0 (kept_in (some-rows h.proper) h.kept))
     (settled-goes u)
 
-module _ (n i : ℕ) (some : 1 ≤ n) (most : n ≤ mostNodes) (below : i < n) (run : Run) where
-  goes_on : (a b : ℕ) → a ≤ b → Goes (finals (stateAt n run a i)) (finals (stateAt n run b i))
+module _ (n i : ℕ) (some : 1 ≤ n) (most : n ≤ most_nodes) (below : i < n) (run : Run) where
+  goes_on : (a b : ℕ) → a ≤ b → Goes (finals (state_at n run a i)) (finals (state_at n run b i))
   goes_on =
       from-to n i some most below run (λ s u. Goes (finals s) (finals u)) (λ s. goes_same (finals s))
       (λ s t u. goes_then (finals s) (finals t) (finals u)) (λ m w. did-goes (reached n i some most below run m) w.did)
 
   -- what is shown stays shown
-  pub never_back : (a b : ℕ) → a ≤ b → Begins (shownAt n run a i) (shownAt n run b i)
+  pub never_back : (a b : ℕ) → a ≤ b → Begins (shown_at n run a i) (shown_at n run b i)
   unfolding table_at
   never_back a b h =
       subst₂ Begins (sym (shown-names n run a i)) (sym (shown-names n run b i))
-      (joined-begins (finals (stateAt n run a i)) (finals (stateAt n run b i)) (goes_on a b h))
+      (joined-begins (finals (state_at n run a i)) (finals (state_at n run b i)) (goes_on a b h))

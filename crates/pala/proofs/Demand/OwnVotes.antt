@@ -8,11 +8,11 @@ use native.Mathlib.Decide.{dec_lt}
 use native.Mathlib.Omega.{arith}
 use Rattle.table.specs.declared.Block.{Block}
 use Rattle.table.specs.declared.State.{State}
-use Rattle.table.specs.Rows.{mostNodes, rows, at, hasVoter, withVoter}
+use Rattle.table.specs.Rows.{most_nodes, rows, at, has_voter, with_voter}
 use Rattle.pala.specs.Effects.{picked}
-use Rattle.pala.specs.Record.{is, voteHeard, castNow}
+use Rattle.pala.specs.Record.{is, vote_heard, cast_now}
 use Rattle.pala.specs.Step.{room}
-use Rattle.pala.specs.Safety.{Run, stateAt, table_at, Cast, Held}
+use Rattle.pala.specs.Safety.{Run, state_at, table_at, Cast, Held}
 use Rattle.table.proofs.Laws.{not-both}
 use Rattle.pala.proofs.Grown.{Grown, at_set_same, voter-in, rows_settled}
 use Rattle.pala.proofs.Places.{votable-parts}
@@ -21,21 +21,21 @@ use Rattle.pala.proofs.Keeps.{Proper}
 use Rattle.pala.proofs.Sent.{at-sized}
 use Rattle.pala.proofs.Demand.Sound.{shaped-sound, one_place}
 use Rattle.pala.proofs.Demand.Healthy.{after-vote, did-grown}
-use Rattle.pala.proofs.Demand.Runs.{effectAt, fresh-none, Moved, Next, stayed, moved, next, reached, at-moments, reached-same, tables-grow}
+use Rattle.pala.proofs.Demand.Runs.{effect_at, fresh-none, Moved, Next, stayed, moved, next, reached, at-moments, reached-same, tables-grow}
 use Rattle.pala.proofs.Demand.Casts.{cast-later, cast-next, kind_at, happened-at, its-at, taken_at, name-at, voter-cast}
 
-module _ (n i : ℕ) (some : 1 ≤ n) (most : n ≤ mostNodes) (below : i < n) (run : Run) where
-  proper : (m : ℕ) → Proper (stateAt n run m i)
+module _ (n i : ℕ) (some : 1 ≤ n) (most : n ≤ most_nodes) (below : i < n) (run : Run) where
+  proper : (m : ℕ) → Proper (state_at n run m i)
   proper m = (reached n i some most below run m).proper
 
-  own : (m : ℕ) → (stateAt n run m i).own.0 ≡ i
+  own : (m : ℕ) → (state_at n run m i).own.0 ≡ i
   own m = (reached-same n i some most below run m).1
 
   -- a vote under the own number was cast
   Good : ℕ → List Block → Type 0
-  Good m t = (p : ℕ) → Held t p → hasVoter (at t p) i ≡ true → Cast n run m i (at t p).name
+  Good m t = (p : ℕ) → Held t p → has_voter (at t p) i ≡ true → Cast n run m i (at t p).name
 
-  good-took : (m : ℕ) → Moved n run m i → Good m (rows (stateAt n run m i)) → Good (suc m) (rows (effectAt n run m i))
+  good-took : (m : ℕ) → Moved n run m i → Good m (rows (state_at n run m i)) → Good (suc m) (rows (effect_at n run m i))
   unfolding Good
   good-took m w g p h =
       voter-cast (proper m) (own m) w p i (λ l v. g p (h.0, l) v) (λ _ _ other. absurd (other refl)) h.1
@@ -49,7 +49,7 @@ module _ (n i : ℕ) (some : 1 ≤ n) (most : n ≤ mostNodes) (below : i < n) (
     place : ℕ
     held-there : Held t place
     named : (at t place).name ≡ x
-    counted-there : hasVoter (at t place) i ≡ true
+    counted-there : has_voter (at t place) i ≡ true
 
   grown-shown : {t u : List Block} {x : List ℕ} → Grown t u → ShownIn t x → ShownIn u x
   grown-shown g w =
@@ -61,10 +61,10 @@ module _ (n i : ℕ) (some : 1 ≤ n) (most : n ≤ mostNodes) (below : i < n) (
       }
 
   -- a taken kind 5 shows its vote at the place picked
-  did-shown : (m : ℕ) {r : List ℕ} {u : State} → Did room (stateAt n run m i) r u → is castNow r ≡ true
-      → ShownIn (rows u) (at (rows (stateAt n run m i)) (picked (stateAt n run m i))).name
+  did-shown : (m : ℕ) {r : List ℕ} {u : State} → Did room (state_at n run m i) r u → is cast_now r ≡ true
+      → ShownIn (rows u) (at (rows (state_at n run m i)) (picked (state_at n run m i))).name
   did-shown m {r} (added b proposed k w l e) c = absurd (not-both c (block-no-cast r k))
-  did-shown m {r} (counted k q l v other e) c = absurd (not-both c (other-kind r voteHeard castNow k refl))
+  did-shown m {r} (counted k q l v other e) c = absurd (not-both c (other-kind r vote_heard cast_now k refl))
   did-shown m {r} (clocked j x k2 k5 low e) c = absurd (not-both c k5)
   did-shown m {r} {u} (cast k l v e) c =
       record {
@@ -72,14 +72,14 @@ module _ (n i : ℕ) (some : 1 ≤ n) (most : n ≤ mostNodes) (below : i < n) (
         held-there = ((votable-parts _ _ _ _ _ _ v).above, omega (arith, l, grown.longer));
         named = grown.name q l;
         counted-there =
-            ap (λ x. hasVoter (at x q) i) (after-vote (proper m) q s.own.0 s.local.0 l e)
-            ∙ ap (λ (b : Block). hasVoter b i) (at_set_same t q (withVoter (at t q) s.own.0) l)
-            ∙ ap (λ j. hasVoter (withVoter (at t q) j) i) (own m)
+            ap (λ x. has_voter (at x q) i) (after-vote (proper m) q s.own.0 s.local.0 l e)
+            ∙ ap (λ (b : Block). has_voter b i) (at_set_same t q (with_voter (at t q) s.own.0) l)
+            ∙ ap (λ j. has_voter (with_voter (at t q) j) i) (own m)
             ∙ voter-in (at t q) i (omega (arith, (at-sized s (proper m) q).voters));
       }
     where
       s : State
-      s = stateAt n run m i
+      s = state_at n run m i
 
       t : List Block
       t = rows s
@@ -94,10 +94,10 @@ module _ (n i : ℕ) (some : 1 ≤ n) (most : n ≤ mostNodes) (below : i < n) (
   unfolding table_at
   cast-now m x c z = go (next n i some most below run m)
     where
-      go : Next n run m i → ShownIn (rows (stateAt n run (suc m) i)) x
+      go : Next n run m i → ShownIn (rows (state_at n run (suc m) i)) x
       go (stayed not_taken e) = absurd (not-both (taken_at c z) (not_taken (happened-at c z) (its-at c z)))
       go (moved w) =
-          subst₂ ShownIn (sym (ap rows w.later ∙ rows_settled (effectAt n run m i))) (name-at c z (proper m)) (did-shown m w.did (kind_at c z))
+          subst₂ ShownIn (sym (ap rows w.later ∙ rows_settled (effect_at n run m i))) (name-at c z (proper m)) (did-shown m w.did (kind_at c z))
 
   cast-shown : (m : ℕ) (x : List ℕ) (c : Cast n run m i x) → ShownIn (table_at n run m i) x
   cast-shown zero x c = absurd (omega (arith, c.before))
@@ -109,14 +109,14 @@ module _ (n i : ℕ) (some : 1 ≤ n) (most : n ≤ mostNodes) (below : i < n) (
 
   -- "its own table shows its own vote exactly then"
   pub own-votes : (m p : ℕ) → Held (table_at n run m i) p
-      → (hasVoter (at (table_at n run m i) p) i ≡ true) ↔ Cast n run m i (at (table_at n run m i) p).name
+      → (has_voter (at (table_at n run m i) p) i ≡ true) ↔ Cast n run m i (at (table_at n run m i) p).name
   unfolding Good table_at
   own-votes m p h = (good m p h, λ c. shows (cast-shown m (at t p).name c))
     where
       t : List Block
       t = table_at n run m i
 
-      shows : ShownIn t (at t p).name → hasVoter (at t p) i ≡ true
+      shows : ShownIn t (at t p).name → has_voter (at t p) i ≡ true
       shows w =
-          let z : w.place ≡ p = one_place (shaped-sound (stateAt n run m i) (proper m)) w.place p w.held-there.1 h.1 w.named in
-          subst (λ q. hasVoter (at t q) i ≡ true) z w.counted-there
+          let z : w.place ≡ p = one_place (shaped-sound (state_at n run m i) (proper m)) w.place p w.held-there.1 h.1 w.named in
+          subst (λ q. has_voter (at t q) i ≡ true) z w.counted-there

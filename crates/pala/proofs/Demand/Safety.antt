@@ -7,20 +7,20 @@ use mathlib.Core.Path.{◌≡◌, refl, sym, ap, subst, subst₂, ◌∙◌}
 use Rattle.table.specs.declared.Block.{Block}
 use Rattle.table.specs.declared.State.{State}
 use Rattle.table.specs.Rows.{rows, size, at, fresh}
-use Rattle.pala.specs.Counts.{noName}
+use Rattle.pala.specs.Counts.{no_name}
 use Rattle.pala.specs.Rules.{notarized, candidate, descends}
-use Rattle.pala.specs.Steps.{settled, newTorn, forward}
-use Rattle.pala.specs.Lists.{joined, finalNames}
-use Rattle.pala.specs.Safety.{Run, stateAt, table_at, Honest, Premises, shownAt, Begins, OneBegins, Safe, NeverTorn}
+use Rattle.pala.specs.Steps.{settled, new_torn, forward}
+use Rattle.pala.specs.Lists.{joined, final_names}
+use Rattle.pala.specs.Safety.{Run, state_at, table_at, Honest, Premises, shown_at, Begins, OneBegins, Safe, NeverTorn}
 use Rattle.pala.proofs.Demand.Chains as Chains
 use Rattle.pala.proofs.Tests.{or_l, or_r}
 use Rattle.pala.proofs.Grown.{rows_settled}
 use Rattle.pala.proofs.Demand.Chains.{Goes, On, in-line, chains-agree}
 use Rattle.pala.proofs.Demand.Freshest.{Kept, kept_in, candidate-kept}
 use Rattle.pala.proofs.Demand.Healthy.{Healthy, KeptBy, did-same, did-kept}
-use Rattle.pala.proofs.Demand.Runs.{effectAt, Next, stayed, moved, next, starts}
+use Rattle.pala.proofs.Demand.Runs.{effect_at, Next, stayed, moved, next, starts}
 use Rattle.pala.proofs.Demand.Names.{chain-of, kept_of, on-place}
-use Rattle.pala.proofs.Finals.{namesTo}
+use Rattle.pala.proofs.Finals.{names_to}
 use Rattle.pala.proofs.Demand.Honest as Honestly
 use Rattle.pala.proofs.Demand.Honest.{healthy, nodes-same, table-sound, table_kept, faithful, Notarized, keeps}
 
@@ -34,15 +34,15 @@ pub joined-begins : (a b : List (List ℕ)) → Goes a b → Begins (joined a) (
 joined-begins a b (rest, e) = (joined rest, sym (ap joined e ∙ joined-append a rest))
 
 -- what is shown are the names to the kept block
-pub shown-names : (n : ℕ) (run : Run) (m i : ℕ) → shownAt n run m i ≡ joined (namesTo (table_at n run m i) (stateAt n run m i).kept.0)
-unfolding shownAt finalNames table_at namesTo
+pub shown-names : (n : ℕ) (run : Run) (m i : ℕ) → shown_at n run m i ≡ joined (names_to (table_at n run m i) (state_at n run m i).kept.0)
+unfolding shown_at final_names table_at names_to
 shown-names n run m i = refl
 
 -- the five steps tear nothing where the candidate and the kept block are in line
 settled-whole : (u : State) → u.torn ≡ false
     → (descends (rows u) (candidate u.n (rows u)) u.kept.0 || descends (rows u) u.kept.0 (candidate u.n (rows u))) ≡ true
     → (settled u).torn ≡ false
-unfolding settled newTorn forward
+unfolding settled new_torn forward
 settled-whole u a b = neither u.torn _ a b
   where
     neither : (a b : Bool) → a ≡ false → b ≡ true → (a || not b) ≡ false
@@ -64,25 +64,25 @@ module _ (n : ℕ) (honest : ℕ → Bool) (run : Run) (pr : Premises n honest r
 
   -- what an honest gateway keeps is final
   final : (m i : ℕ) → Honest n honest i → (c : ℕ) → Kept n (table_at n run m i) c
-      → Chains.Kept noName epoch parent 0 (Notarized n honest run pr) (at (table_at n run m i) c).name
+      → Chains.Kept no_name epoch parent 0 (Notarized n honest run pr) (at (table_at n run m i) c).name
   final m i hi c k = kept_of epoch parent (faithful n honest run pr m i hi) (known m i hi) c k
 
-  kept-held : (m i : ℕ) → Honest n honest i → (stateAt n run m i).kept.0 < size (table_at n run m i)
+  kept-held : (m i : ℕ) → Honest n honest i → (state_at n run m i).kept.0 < size (table_at n run m i)
   kept-held m i hi = kept_in (table-sound n honest run pr m i hi).some (table_kept n honest run pr m i hi)
 
-  agree : (i j a b : ℕ) → Honest n honest i → Honest n honest j → OneBegins (shownAt n run a i) (shownAt n run b j)
+  agree : (i j a b : ℕ) → Honest n honest i → Honest n honest j → OneBegins (shown_at n run a i) (shown_at n run b j)
   agree i j a b hi hj =
       subst₂ OneBegins (sym (shown-names n run a i)) (sym (shown-names n run b j))
-      (go (chains-agree noName epoch parent (keeps n honest run pr)
+      (go (chains-agree no_name epoch parent (keeps n honest run pr)
       (final a i hi (kept a i) (table_kept n honest run pr a i hi)) (final b j hj (kept b j) (table_kept n honest run pr b j hj))
       (chain-of epoch parent (faithful n honest run pr a i hi) (kept a i) (kept-held a i hi))
       (chain-of epoch parent (faithful n honest run pr b j hj) (kept b j) (kept-held b j hj))))
     where
       kept : ℕ → ℕ → ℕ
-      kept m k = (stateAt n run m k).kept.0
+      kept m k = (state_at n run m k).kept.0
 
       names : ℕ → ℕ → List (List ℕ)
-      names m k = namesTo (table_at n run m k) (kept m k)
+      names m k = names_to (table_at n run m k) (kept m k)
 
       go : Goes (names a i) (names b j) ⊎ Goes (names b j) (names a i) → OneBegins (joined (names a i)) (joined (names b j))
       go (inl w) = inl (joined-begins (names a i) (names b j) w)
@@ -92,7 +92,7 @@ module _ (n : ℕ) (honest : ℕ → Bool) (run : Run) (pr : Premises n honest r
   table-in-line : (m i : ℕ) → Honest n honest i → (c k : ℕ) → Kept n (table_at n run m i) c → Kept n (table_at n run m i) k
       → (descends (table_at n run m i) c k || descends (table_at n run m i) k c) ≡ true
   table-in-line m i hi c k wc wk =
-      go (in-line noName epoch parent (keeps n honest run pr) (final m i hi c wc) (final m i hi k wk))
+      go (in-line no_name epoch parent (keeps n honest run pr) (final m i hi c wc) (final m i hi k wk))
     where
       t : List Block
       t = table_at n run m i
@@ -100,8 +100,8 @@ module _ (n : ℕ) (honest : ℕ → Bool) (run : Run) (pr : Premises n honest r
       within : {p : ℕ} → Kept n t p → p < size t
       within w = kept_in (table-sound n honest run pr m i hi).some w
 
-      go : On noName epoch parent (at t c).name (at t k).name
-          ⊎ On noName epoch parent (at t k).name (at t c).name
+      go : On no_name epoch parent (at t c).name (at t k).name
+          ⊎ On no_name epoch parent (at t k).name (at t c).name
           → (descends t c k || descends t k c) ≡ true
       go (inl o) =
           or_r (descends t c k) (descends t k c)
@@ -124,18 +124,18 @@ module _ (n : ℕ) (honest : ℕ → Bool) (run : Run) (pr : Premises n honest r
       k : ℕ
       k = u.kept.0
 
-  whole : (m i : ℕ) → Honest n honest i → (stateAt n run m i).torn ≡ false
+  whole : (m i : ℕ) → Honest n honest i → (state_at n run m i).torn ≡ false
   unfolding fresh table_at
   whole zero i hi = ap (λ (x : State). x.torn) (starts n i pr.some pr.most hi.0 run)
   whole (suc m) i hi = go (whole m i hi) (next n i pr.some pr.most hi.0 run m)
     where
-      h : Healthy (stateAt n run m i)
+      h : Healthy (state_at n run m i)
       h = healthy n honest run pr m i hi
 
       u : State
-      u = effectAt n run m i
+      u = effect_at n run m i
 
-      go : (stateAt n run m i).torn ≡ false → Next n run m i → (stateAt n run (suc m) i).torn ≡ false
+      go : (state_at n run m i).torn ≡ false → Next n run m i → (state_at n run (suc m) i).torn ≡ false
       go w (stayed _ e) = ap (λ (x : State). x.torn) e ∙ w
       go w (moved v) =
           ap (λ (x : State). x.torn) v.later

@@ -13,15 +13,15 @@ use Rattle.table.specs.declared.Answer.{Answer}
 use Rattle.table.specs.declared.Block.{Block}
 use Rattle.table.specs.declared.State.{State}
 use Rattle.table.specs.Scan.{pick}
-use Rattle.table.specs.Rows.{capacity, mostNodes, nameBytes, rows, at}
+use Rattle.table.specs.Rows.{capacity, most_nodes, name_bytes, rows, at}
 use Rattle.pala.specs.Answers.{number, taken}
-use Rattle.pala.specs.Record.{recordBytes}
-use Rattle.pala.specs.Lists.{joined, finalNames, finalList, listed, listAnswer}
+use Rattle.pala.specs.Record.{record_bytes}
+use Rattle.pala.specs.Lists.{joined, final_names, final_list, listed, list_answer}
 use Rattle.pala.specs.Rules.{parent_of}
-use Rattle.pala.specs.Run.{stretches, lent, played, ran, run, runAnswer, runCode}
+use Rattle.pala.specs.Run.{stretches, lent, played, ran, run, run_answer, run_code}
 use Rattle.pala.specs.Step.{step, start}
-use Rattle.pala.specs.Safety.{Event, Run, eventAt, after, follow, stateAt, shownAt, OneBegins}
-use Rattle.pala.specs.Shown.{written, SafeLists, recordsOf, PlayedBy, ranWritten, SafeRuns}
+use Rattle.pala.specs.Safety.{Event, Run, event_at, after, follow, state_at, shown_at, OneBegins}
+use Rattle.pala.specs.Shown.{written, SafeLists, records_of, PlayedBy, ran_written, SafeRuns}
 use Rattle.pala.proofs.Shapes.{shaped-count, shaped-kept}
 use Rattle.pala.proofs.Sized.{RowSized}
 use Rattle.pala.proofs.Keeps.{Proper}
@@ -29,20 +29,20 @@ use Rattle.pala.proofs.Sent.{at-sized}
 use Rattle.pala.proofs.Calls.{any_lent}
 use Rattle.pala.proofs.Demand.Ancestors.{climb}
 use Rattle.pala.proofs.Demand.Runs.{reached}
-use Rattle.pala.proofs.Finals.{namesTo, finals-are, names-zero, names-up, names-le}
+use Rattle.pala.proofs.Finals.{names_to, finals-are, names-zero, names-up, names-le}
 use Rattle.pala.proofs.Demand.Safety.{joined-append, safe}
 
 -- the names to a place are 32 bytes each
-pub names-long : (t : List Block) → ((p : ℕ) → RowSized (at t p)) → (p : ℕ) → length (joined (namesTo t p)) ≡ nameBytes * length (namesTo t p)
+pub names-long : (t : List Block) → ((p : ℕ) → RowSized (at t p)) → (p : ℕ) → length (joined (names_to t p)) ≡ name_bytes * length (names_to t p)
 unfolding joined
-names-long t sized = climb t (λ p. length (joined (namesTo t p)) ≡ nameBytes * length (namesTo t p)) base step
+names-long t sized = climb t (λ p. length (joined (names_to t p)) ≡ name_bytes * length (names_to t p)) base step
   where
-    base : length (joined (namesTo t 0)) ≡ nameBytes * length (namesTo t 0)
-    base = ap (λ l. length (joined l)) (names-zero t) ∙ sym (ap (λ l. nameBytes * length l) (names-zero t))
+    base : length (joined (names_to t 0)) ≡ name_bytes * length (names_to t 0)
+    base = ap (λ l. length (joined l)) (names-zero t) ∙ sym (ap (λ l. name_bytes * length l) (names-zero t))
 
     step : (p : ℕ) → 0 < p
-        → length (joined (namesTo t (parent_of t p))) ≡ nameBytes * length (namesTo t (parent_of t p))
-        → length (joined (namesTo t p)) ≡ nameBytes * length (namesTo t p)
+        → length (joined (names_to t (parent_of t p))) ≡ name_bytes * length (names_to t (parent_of t p))
+        → length (joined (names_to t p)) ≡ name_bytes * length (names_to t p)
     step p pos ih =
         omega (
           arith,
@@ -57,32 +57,32 @@ names-long t sized = climb t (λ p. length (joined (namesTo t p)) ≡ nameBytes 
         )
       where
         up : List (List ℕ)
-        up = namesTo t (parent_of t p)
+        up = names_to t (parent_of t p)
 
 -- as many names as were counted: all of them, or none
-cut : (b : Bool) (l : List (List ℕ)) (rest x : List ℕ) → length (joined l) ≡ nameBytes * length l
-    → (take (nameBytes * pick b (length l) 0) (pick b (joined l ++ rest) x) ≡ joined l)
-    ⊎ (take (nameBytes * pick b (length l) 0) (pick b (joined l ++ rest) x) ≡ [])
+cut : (b : Bool) (l : List (List ℕ)) (rest x : List ℕ) → length (joined l) ≡ name_bytes * length l
+    → (take (name_bytes * pick b (length l) 0) (pick b (joined l ++ rest) x) ≡ joined l)
+    ⊎ (take (name_bytes * pick b (length l) 0) (pick b (joined l ++ rest) x) ≡ [])
 unfolding pick
-cut true l rest x e = inl (take_at (joined l) rest (nameBytes * length l) e)
+cut true l rest x e = inl (take_at (joined l) rest (name_bytes * length l) e)
 cut false l rest x e = inr refl
 
 -- a state's final names are 32 bytes each
-finals-long : (s : State) → Proper s → length (joined (finalNames s)) ≡ nameBytes * length (finalNames s)
+finals-long : (s : State) → Proper s → length (joined (final_names s)) ≡ name_bytes * length (final_names s)
 finals-long s k =
-    subst (λ l. length (joined l) ≡ nameBytes * length l) (sym (finals-are s)) (names-long (rows s) (at-sized s k) s.kept.0)
+    subst (λ l. length (joined l) ≡ name_bytes * length l) (sym (finals-are s)) (names-long (rows s) (at-sized s k) s.kept.0)
 
 -- what the final-list function writes: the final names, or nothing
-written_is : (s : State) → Proper s → (x : List ℕ) → (written (finalList s x) ≡ joined (finalNames s)) ⊎ (written (finalList s x) ≡ [])
-unfolding finalList listed
+written_is : (s : State) → Proper s → (x : List ℕ) → (written (final_list s x) ≡ joined (final_names s)) ⊎ (written (final_list s x) ≡ [])
+unfolding final_list listed
 written_is s k x =
-    cut (taken (listAnswer s x)) (finalNames s) (drop (nameBytes * length (finalNames s)) x) x (finals-long s k)
+    cut (taken (list_answer s x)) (final_names s) (drop (name_bytes * length (final_names s)) x) x (finals-long s k)
 
-counted-few : (s : State) → Proper s → (x : List ℕ) → (finalList s x).count ≤ capacity
-unfolding finalList listed pick
-counted-few s k x = go (taken (listAnswer s x))
+counted-few : (s : State) → Proper s → (x : List ℕ) → (final_list s x).count ≤ capacity
+unfolding final_list listed pick
+counted-few s k x = go (taken (list_answer s x))
   where
-    go : (b : Bool) → pick b (length (finalNames s)) 0 ≤ capacity
+    go : (b : Bool) → pick b (length (final_names s)) 0 ≤ capacity
     go true =
         omega (
           arith,
@@ -100,37 +100,37 @@ or-empty {x = x} o (inl e) (inr f) = inr (x, ap (λ l. l ++ x) f)
 or-empty o (inl e) (inl f) = subst₂ OneBegins (sym e) (sym f) o
 
 pub safe-lists : SafeLists
-unfolding shownAt
+unfolding shown_at
 safe-lists n honest run pr i j a b hi hj x y =
     or-empty (safe n honest run pr i j a b hi hj)
-    (written_is (stateAt n run a i) (reached n i pr.some pr.most hi.0 run a).proper x)
-    (written_is (stateAt n run b j) (reached n j pr.some pr.most hj.0 run b).proper y)
+    (written_is (state_at n run a i) (reached n i pr.some pr.most hi.0 run a).proper x)
+    (written_is (state_at n run b j) (reached n j pr.some pr.most hj.0 run b).proper y)
 
 -- the records of gateway i played one after the other bring it where the run does
-follow-played : (i : ℕ) (events : Run) → ((k : ℕ) → k < length events → (eventAt events k).to ≡ i → length (eventAt events k).buffer ≡ recordBytes)
-    → (s : State) → follow i s events ≡ played s (recordsOf i events)
-unfolding follow after played recordsOf
+follow-played : (i : ℕ) (events : Run) → ((k : ℕ) → k < length events → (event_at events k).to ≡ i → length (event_at events k).buffer ≡ record_bytes)
+    → (s : State) → follow i s events ≡ played s (records_of i events)
+unfolding follow after played records_of
 follow-played i [] h s = refl
 follow-played i (e ∷ more) h s = go (eqb e.to i) refl (follow-played i more (λ k l. h (suc k) (suc-le-suc l)))
   where
-    go : (b : Bool) → eqb e.to i ≡ b → ((u : State) → follow i u more ≡ played u (recordsOf i more))
+    go : (b : Bool) → eqb e.to i ≡ b → ((u : State) → follow i u more ≡ played u (records_of i more))
         → follow i (pick b (step s e.bytes e.buffer).state s) more
-        ≡ played s (elim b as (λ _. List (List ℕ)) [ true ↦ e.bytes ∷ recordsOf i more | false ↦ recordsOf i more ])
+        ≡ played s (elim b as (λ _. List (List ℕ)) [ true ↦ e.bytes ∷ records_of i more | false ↦ records_of i more ])
     go true k ih =
         ap (λ u. follow i u more) (any_lent s e.bytes e.buffer (h 0 (suc-le-suc zero-le) (eqb-true e.to i k)))
         ∙ ih (step s e.bytes lent).state
     go false k ih = ih s
 
 state-played : (n : ℕ) (events : Run) (m i : ℕ) (slice : List ℕ) → PlayedBy events m i slice
-    → stateAt n events m i ≡ played (start n i).state (stretches slice)
-unfolding stateAt
+    → state_at n events m i ≡ played (start n i).state (stretches slice)
+unfolding state_at
 state-played n events m i slice w =
     follow-played i (take m events) buffers (start n i).state ∙ ap (played (start n i).state) w.records
   where
-    buffers : (k : ℕ) → k < length (take m events) → (eventAt (take m events) k).to ≡ i → length (eventAt (take m events) k).buffer ≡ recordBytes
+    buffers : (k : ℕ) → k < length (take m events) → (event_at (take m events) k).to ≡ i → length (event_at (take m events) k).buffer ≡ record_bytes
     buffers k l e =
         let s : k < m = omega (arith, length-take m events) in
-        let same = get_or-take m events k (eventAt [] 0) s in
+        let same = get_or-take m events k (event_at [] 0) s in
         ap (λ (v : Event). length v.buffer) same
         ∙ w.buffers k s (omega (arith, length-take m events)) (sym (ap (λ (v : Event). v.to) same) ∙ e)
 
@@ -139,46 +139,46 @@ code-count : (k c : ℕ) → c < 65536 → (k * 65536 + c) % 65536 ≡ c
 code-count k c h = omega arith
 
 code-written : (b : Bool) (k c : ℕ) (l x names : List ℕ) → c < 65536
-    → (take (nameBytes * c) l ≡ names) ⊎ (take (nameBytes * c) l ≡ [])
-    → (take (nameBytes * ((k * 65536 + pick b c 0) % 65536)) (pick b l x) ≡ names)
-    ⊎ (take (nameBytes * ((k * 65536 + pick b c 0) % 65536)) (pick b l x) ≡ [])
+    → (take (name_bytes * c) l ≡ names) ⊎ (take (name_bytes * c) l ≡ [])
+    → (take (name_bytes * ((k * 65536 + pick b c 0) % 65536)) (pick b l x) ≡ names)
+    ⊎ (take (name_bytes * ((k * 65536 + pick b c 0) % 65536)) (pick b l x) ≡ [])
 unfolding pick
 code-written true k c l x names h w =
-    subst (λ m. (take (nameBytes * m) l ≡ names) ⊎ (take (nameBytes * m) l ≡ [])) (sym (code-count k c h)) w
-code-written false k c l x names h w = inr (ap (λ m. take (nameBytes * m) x) (code-count k 0 (omega arith)))
+    subst (λ m. (take (name_bytes * m) l ≡ names) ⊎ (take (name_bytes * m) l ≡ [])) (sym (code-count k c h)) w
+code-written false k c l x names h w = inr (ap (λ m. take (name_bytes * m) x) (code-count k 0 (omega arith)))
 
 -- what a run writes: the final names of the state that its records lead to, or nothing
 ran-is : (n i : ℕ) (slice x : List ℕ) (s : State) → Proper s → s ≡ played (start n i).state (stretches slice)
-    → (ranWritten (run n i slice x) ≡ joined (finalNames s)) ⊎ (ranWritten (run n i slice x) ≡ [])
-unfolding run ran runCode
+    → (ran_written (run n i slice x) ≡ joined (final_names s)) ⊎ (ran_written (run n i slice x) ≡ [])
+unfolding run ran run_code
 ran-is n i slice x s k e =
-    subst (λ u. (of u ≡ joined (finalNames s)) ⊎ (of u ≡ [])) e
-    (code-written (taken a) (number a) (finalList s x).count (finalList s x).list x (joined (finalNames s))
+    subst (λ u. (of u ≡ joined (final_names s)) ⊎ (of u ≡ [])) e
+    (code-written (taken a) (number a) (final_list s x).count (final_list s x).list x (joined (final_names s))
     (omega (arith, counted-few s k x)) (written_is s k x))
   where
     a : Answer
-    a = runAnswer n i slice x
+    a = run_answer n i slice x
 
     of : State → List ℕ
     of u =
-        take (nameBytes * ((number a * 65536 + pick (taken a) (finalList u x).count 0) % 65536)) (pick (taken a) (finalList u x).list x)
+        take (name_bytes * ((number a * 65536 + pick (taken a) (final_list u x).count 0) % 65536)) (pick (taken a) (final_list u x).list x)
 
 -- .. of the state that a gateway of a run is in
-ran-shown : (n i m : ℕ) (events : Run) → 1 ≤ n → n ≤ mostNodes → i < n → (slice : List ℕ) → PlayedBy events m i slice → (x : List ℕ)
-    → (ranWritten (run n i slice x) ≡ joined (finalNames (stateAt n events m i))) ⊎ (ranWritten (run n i slice x) ≡ [])
+ran-shown : (n i m : ℕ) (events : Run) → 1 ≤ n → n ≤ most_nodes → i < n → (slice : List ℕ) → PlayedBy events m i slice → (x : List ℕ)
+    → (ran_written (run n i slice x) ≡ joined (final_names (state_at n events m i))) ⊎ (ran_written (run n i slice x) ≡ [])
 ran-shown n i m events some most below slice w x =
-    ran-is n i slice x (stateAt n events m i) (reached n i some most below events m).proper (state-played n events m i slice w)
+    ran-is n i slice x (state_at n events m i) (reached n i some most below events m).proper (state-played n events m i slice w)
 
 pub safe-runs : SafeRuns
-unfolding shownAt
+unfolding shown_at
 safe-runs n honest events pr i j a b hi hj p q wp wq x y =
     or-empty (safe n honest events pr i j a b hi hj)
     (ran-shown n i a events pr.some pr.most hi.0 p wp x)
     (ran-shown n j b events pr.some pr.most hj.0 q wq y)
 
 -- a run of a gateway writes whole names
-pub runs-whole : (n i m : ℕ) (events : Run) → 1 ≤ n → n ≤ mostNodes → i < n → (slice : List ℕ) → PlayedBy events m i slice → (x : List ℕ)
-    → length (ranWritten (run n i slice x)) % nameBytes ≡ 0
+pub runs-whole : (n i m : ℕ) (events : Run) → 1 ≤ n → n ≤ most_nodes → i < n → (slice : List ℕ) → PlayedBy events m i slice → (x : List ℕ)
+    → length (ran_written (run n i slice x)) % name_bytes ≡ 0
 runs-whole n i m events some most below slice w x =
-    ⊎_elim (λ e. omega (arith, ap length e, finals-long (stateAt n events m i) (reached n i some most below events m).proper))
-    (λ e. ap (λ l. length l % nameBytes) e) (ran-shown n i m events some most below slice w x)
+    ⊎_elim (λ e. omega (arith, ap length e, finals-long (state_at n events m i) (reached n i some most below events m).proper))
+    (λ e. ap (λ l. length l % name_bytes) e) (ran-shown n i m events some most below slice w x)

@@ -9,10 +9,10 @@ use native.Mathlib.Omega.{arith}
 use Rattle.table.specs.declared.Block.{Block}
 use Rattle.table.specs.declared.State.{State}
 use Rattle.table.specs.Bytes.{same, zeros}
-use Rattle.table.specs.Rows.{nameBytes, blank, rows, size, at}
-use Rattle.pala.specs.Counts.{noName}
-use Rattle.pala.specs.Rules.{epochAt, parent_of}
-use Rattle.pala.specs.Shape.{blockOk}
+use Rattle.table.specs.Rows.{name_bytes, blank, rows, size, at}
+use Rattle.pala.specs.Counts.{no_name}
+use Rattle.pala.specs.Rules.{epoch_at, parent_of}
+use Rattle.pala.specs.Shape.{block_ok}
 use Rattle.table.proofs.Laws.{not-both, same_refl, zeros-replicate}
 use Rattle.pala.proofs.Shapes.{block-name, block_apart, block-parent, block-parent-epoch, blank-is, shaped-block, shaped-root}
 use Rattle.pala.proofs.Sized.{RowSized}
@@ -22,17 +22,17 @@ use Rattle.pala.proofs.Sent.{at-sized}
 
 pub record Sound (n : ℕ) (t : List Block) : Type 0 where
   pub some : 0 < size t
-  pub rootName : (at t 0).name ≡ noName
-  pub rootEpoch : epochAt t 0 ≡ 0
-  pub block : (p : ℕ) → 0 < p → p < size t → blockOk n t p ≡ true
+  pub root_name : (at t 0).name ≡ no_name
+  pub root_epoch : epoch_at t 0 ≡ 0
+  pub block : (p : ℕ) → 0 < p → p < size t → block_ok n t p ≡ true
 
 pub shaped-sound : (s : State) → Proper s → Sound s.n (rows s)
-unfolding blank epochAt
+unfolding blank epoch_at
 shaped-sound s k =
     record {
       some = some-rows k;
-      rootName = ap (λ (b : Block). b.name) root;
-      rootEpoch = ap (λ (b : Block). b.epoch.0) root;
+      root_name = ap (λ (b : Block). b.name) root;
+      root_epoch = ap (λ (b : Block). b.epoch.0) root;
       block = λ p pos h. shaped-block s k.shaped p pos (omega (arith, size-proper k));
     }
   where
@@ -44,9 +44,9 @@ shaped-sound s k =
 
 module _ {n : ℕ} {t : List Block} (s : Sound n t) where
   -- the parent's epoch is smaller
-  pub parent-earlier : (p : ℕ) → 0 < p → p < size t → epochAt t (parent_of t p) < epochAt t p
+  pub parent-earlier : (p : ℕ) → 0 < p → p < size t → epoch_at t (parent_of t p) < epoch_at t p
   parent-earlier p pos h =
-      subst (λ q. epochAt t q < epochAt t p) (sym (parent_is t p (block-parent n t p (s.block p pos h))))
+      subst (λ q. epoch_at t q < epoch_at t p) (sym (parent_is t p (block-parent n t p (s.block p pos h))))
       (block-parent-epoch n t p (s.block p pos h))
 
   -- no two names alike
@@ -63,5 +63,5 @@ module _ {n : ℕ} {t : List Block} (s : Sound n t) where
       ]
 
   -- only the root has the name of zeros
-  pub not_root : (p : ℕ) → 0 < p → p < size t → (at t p).name ≢ noName
-  not_root p pos h e = not-both (ap zeros e ∙ zeros-replicate nameBytes) (block-name n t p (s.block p pos h))
+  pub not_root : (p : ℕ) → 0 < p → p < size t → (at t p).name ≢ no_name
+  not_root p pos h e = not-both (ap zeros e ∙ zeros-replicate name_bytes) (block-name n t p (s.block p pos h))

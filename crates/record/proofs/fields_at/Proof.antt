@@ -6,7 +6,7 @@ use borrow.Author.Rules.{rules}
 use borrow.Author.Tests.{eq-eqb, ne_eqb}
 use Rattle.table.specs.declared.Epoch.{Epoch}
 use Rattle.table.proofs.Laws.{pick_yes, pick_no}
-use Rattle.pala.specs.Record.{name_of, parentNameOf, payloadOf, usesEpoch, usesName, usesParent, usesPayload}
+use Rattle.pala.specs.Record.{name_of, parent_name_of, payload_of, uses_epoch, uses_name, uses_parent, uses_payload}
 use Rattle.record.specs.Fields.{fields_of}
 use Rattle.record.proofs.Laws.{clean_is, fields-same, used-or-zero}
 use Rattle.record.proofs.fields_at.Statement.{statement}
@@ -70,7 +70,7 @@ payload-fits-requires : tie.Need-payload-fits-requires
 payload-fits-requires c κs = search rules
 
 returns-2 : tie.Need-returns-2
-unfolding fields_of name_of parentNameOf
+unfolding fields_of name_of parent_name_of
 returns-2 c =
     let used-name = c.before.before.before.before.before in
     let read = used-name.before.before.before.before.before in
@@ -85,10 +85,10 @@ returns-2 c =
     let payload = read.payload-from.ensures in
     let clean =
     clean_is r _ _ _ _ _ held (ap (λ (e : Epoch). e.0) epoch)
-    (used-name.before.before.uses-epoch.ensures ∙ ap (λ (k : ℕ). usesEpoch (k ∷ [])) kind)
-    (used-or-zero usesName r _ (name_of r) _ _ _ c.before.before.before.before.name-fits.ensures used-name.uses-name.ensures kind name)
-    (used-or-zero usesParent r _ (parentNameOf r) _ _ _ c.before.before.name-fits2.ensures c.before.before.before.uses-parent.ensures kind parent)
-    (used-or-zero usesPayload r _ (payloadOf r) _ _ _ c.payload-fits.ensures c.before.uses-payload.ensures kind payload) in
+    (used-name.before.before.uses-epoch.ensures ∙ ap (λ (k : ℕ). uses_epoch (k ∷ [])) kind)
+    (used-or-zero uses_name r _ (name_of r) _ _ _ c.before.before.before.before.name-fits.ensures used-name.uses-name.ensures kind name)
+    (used-or-zero uses_parent r _ (parent_name_of r) _ _ _ c.before.before.name-fits2.ensures c.before.before.before.uses-parent.ensures kind parent)
+    (used-or-zero uses_payload r _ (payload_of r) _ _ _ c.payload-fits.ensures c.before.uses-payload.ensures kind payload) in
     fields-same _ (fields_of r) name parent payload epoch (ap (λ (k : ℕ). record { 0 = k }) sender) kind clean
     ∙ sym (pick_yes _ _ _ (eq-eqb _ _ held))
 

@@ -1,11 +1,11 @@
 -- No fields: all zero, and not clean. Assumes nothing.
 use mathlib.Core.Path.{refl}
-use Rattle.record.specs.Fields.{noFields}
+use Rattle.record.specs.Fields.{no_fields}
 use Rattle.record.proofs.no_fields.Statement.{statement}
 use Rattle.record.proofs.no_fields.Tie as tie
 
 returns : tie.Need-returns
-unfolding noFields
+unfolding no_fields
 returns c = refl
 
 pub no-fields-spec : {M : Type 1} → statement M

@@ -4,14 +4,14 @@ use native.Mathlib.Omega.{arith}
 use borrow.Author.Rules.{rules}
 use borrow.Author.Tests.{eq-eqb, ne_eqb}
 use lib.ListN.{length}
-use Rattle.table.specs.Rows.{nameBytes, payloadBytes}
+use Rattle.table.specs.Rows.{name_bytes, payload_bytes}
 use Rattle.table.proofs.Laws.{pick_yes, pick_no}
 use Rattle.record.proofs.Laws.{written}
 use Rattle.record.proofs.write.Statement.{statement}
 use Rattle.record.proofs.write.Tie as tie
 
 -- the fields' lengths
-sizes : (c : tie.Start) → (length c.args.f.name ≡ nameBytes) × (length c.args.f.parent ≡ nameBytes) × (length c.args.f.payload ≡ payloadBytes)
+sizes : (c : tie.Start) → (length c.args.f.name ≡ name_bytes) × (length c.args.f.parent ≡ name_bytes) × (length c.args.f.payload ≡ payload_bytes)
 sizes c = (search rules, search rules, search rules)
 
 returns : tie.Need-returns

@@ -4,9 +4,9 @@ use borrow.Author.Tests.{not-true, not-false}
 use mathlib.Core.Bool.{true}
 use mathlib.Core.Path.{◌≡◌, ap, sym, ◌∙◌, subst}
 use Rattle.table.specs.declared.State.{State}
-use Rattle.pala.specs.Lists.{Listed, finalList}
+use Rattle.pala.specs.Lists.{Listed, final_list}
 use Rattle.pala.specs.Run.{Ran, played, stretches}
-use Rattle.pala.specs.Shape.{wellShaped}
+use Rattle.pala.specs.Shape.{well_shaped}
 use Rattle.pala.specs.Step.{Started}
 use Rattle.pala.proofs.Calls.{start-shaped}
 use Rattle.gateway.proofs.Answered.{run-broken, run_small, run-setup, run-taken}
@@ -30,7 +30,7 @@ start-requires c κs = search rules
 
 play-requires : tie.Need-play-requires
 play-requires c κs = (
-  subst (λ (s : State). wellShaped s ≡ true) (sym (ap (λ (x : Started). x.state) c.before.start.ensures))
+  subst (λ (s : State). well_shaped s ≡ true) (sym (ap (λ (x : Started). x.state) c.before.start.ensures))
       (start-shaped c.before.before.before.before.before.before.before.before.args.n c.before.before.before.before.before.before.before.before.args.own (sym c.before.before.before.nodes.ensures ∙ not-false _ c.before.before.if3.false)),
   c.before.before.before.before.before.if1.false,
 )
@@ -47,7 +47,7 @@ same_length c = search rules
 returns-4 : tie.Need-returns-4
 returns-4 c =
     ap {B = Ran} (λ (x : Listed). record { code = x.count; list = x.list }) c.before.before.before.final-list-shaped.ensures
-    ∙ ap {B = Ran} (λ (t : State). record { code = (finalList t c.before.before.before.before.before.before.before.before.before.before.before.before.before.before.args.list.now).count; list = (finalList t c.before.before.before.before.before.before.before.before.before.before.before.before.before.before.args.list.now).list })
+    ∙ ap {B = Ran} (λ (t : State). record { code = (final_list t c.before.before.before.before.before.before.before.before.before.before.before.before.before.before.args.list.now).count; list = (final_list t c.before.before.before.before.before.before.before.before.before.before.before.before.before.before.args.list.now).list })
     (c.before.before.before.before.before.play.ensures.0 ∙ ap (λ (s : State). played s (stretches c.before.before.before.before.before.before.before.before.before.before.before.before.before.before.args.records.now)) (ap (λ (x : Started). x.state) c.before.before.before.before.before.before.before.start.ensures))
     ∙ sym (run-taken c.before.before.before.before.before.before.before.before.before.before.before.before.before.before.args.n c.before.before.before.before.before.before.before.before.before.before.before.before.before.before.args.own c.before.before.before.before.before.before.before.before.before.before.before.before.before.before.args.records.now c.before.before.before.before.before.before.before.before.before.before.before.before.before.before.args.list.now c.before.before.before.before.before.before.before.before.before.before.before.if1.false c.before.before.before.before.before.before.before.before.before.before.if2.false (sym c.before.before.before.before.before.before.before.before.before.nodes.ensures ∙ not-false _ c.before.before.before.before.before.before.before.before.if3.false))
 

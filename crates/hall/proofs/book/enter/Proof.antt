@@ -5,16 +5,16 @@ use mathlib.Core.Path.{◌≡◌, ap, ◌∙◌}
 use native.Mathlib.Omega.{arith}
 use borrow.Author.Rules.{rules}
 use lib.ListN.{length}
-use Rattle.table.specs.Rows.{nameBytes, payloadBytes}
+use Rattle.table.specs.Rows.{name_bytes, payload_bytes}
 use Rattle.table.specs.Scan.{pick}
-use Rattle.pala.specs.Record.{recordBytes}
+use Rattle.pala.specs.Record.{record_bytes}
 use Rattle.hall.specs.Book.{row_of}
 use Rattle.hall.proofs.Rows.{message-written}
 use Rattle.hall.proofs.book.enter.Statement.{statement}
 use Rattle.hall.proofs.book.enter.Tie as tie
 
 -- the parts' lengths
-sizes : (c : tie.Start) → (length c.args.b.name ≡ nameBytes) × (length c.args.parent ≡ nameBytes) × (length c.args.b.payload ≡ payloadBytes)
+sizes : (c : tie.Start) → (length c.args.b.name ≡ name_bytes) × (length c.args.parent ≡ name_bytes) × (length c.args.b.payload ≡ payload_bytes)
 sizes c = (search rules, search rules, search rules)
 
 cast-t13 : tie.Need-overflow-cast-t13
@@ -62,7 +62,7 @@ returns c =
     let marked = put.before.before.before.before.before in
     let start = marked.before.before.before in
     let size = sizes start in
-    message-written start.args.book.now (recordBytes * row_of start.args.i start.args.p) _ _ _ _ _ _ _ (omega arith) size.0 size.1 size.2
+    message-written start.args.book.now (record_bytes * row_of start.args.i start.args.p) _ _ _ _ _ _ _ (omega arith) size.0 size.1 size.2
     (marked.mark_of.ensures ∙ ap (λ (own : Bool). pick own 1 0) marked.before.has-voter.ensures) put.write.ensures
 
 pub enter_spec : {M : Type 1} → statement M

@@ -5,18 +5,18 @@ use mathlib.Core.Logic.{⊎_elim}
 use mathlib.Core.Path.{sym, ap, subst, ◌∙◌}
 use native.Mathlib.Omega.{arith}
 use lib.ListN.{length, length-replicate}
-use Rattle.accord.specs.Head.{mostGateways, honestIn}
-use Rattle.hall.specs.Book.{bookBytes}
+use Rattle.accord.specs.Head.{most_gateways, honest_in}
+use Rattle.hall.specs.Book.{book_bytes}
 use Rattle.hall.proofs.Lengths.{hall-whole}
 use Rattle.hall.proofs.Filling.{Filled, filled-all, filled_more, filled_none, filled-skip, seat-low}
 use Rattle.hall.proofs.book.fill.Statement.{statement}
 use Rattle.hall.proofs.book.fill.Tie as tie
 
 abbrev invariant-loop : tie.invariant-loop
-invariant-loop book₀ h i₀ book i = (i ≤ mostGateways) × Filled h i book
+invariant-loop book₀ h i₀ book i = (i ≤ most_gateways) × Filled h i book
 
 abbrev decreases-loop : tie.decreases-loop
-decreases-loop book₀ h i₀ book i = mostGateways - i
+decreases-loop book₀ h i₀ book i = most_gateways - i
 
 loop-holds : tie.Need-loop-init invariant-loop decreases-loop
 loop-holds c = (omega arith, filled_none _ _ c.before.requires.0)
@@ -31,7 +31,7 @@ element-copy-out-s : tie.Need-element-copy-out-s invariant-loop decreases-loop
 element-copy-out-s c = omega arith
 
 enter-all-requires : tie.Need-enter-all-requires invariant-loop decreases-loop
-unfolding honestIn
+unfolding honest_in
 enter-all-requires c κs =
     let l = c.before.before.before.before.before in
     let low = c.before.before.before.before.loop-test.true in
@@ -44,7 +44,7 @@ loop-less : tie.Need-loop-smaller invariant-loop decreases-loop
 loop-less c = omega arith
 
 loop-again : tie.Need-loop-preserved invariant-loop decreases-loop
-unfolding honestIn
+unfolding honest_in
 loop-again c =
     let l = c.before.before.before in
     let kept = l.before.before.requires.1 in
@@ -56,7 +56,7 @@ loop-again c =
     )
 
 same_length : tie.Need-same-length invariant-loop decreases-loop
-same_length c = c.before.loop.invariant.1.long ∙ sym (ap length c.before.before.before.requires.0 ∙ length-replicate {A = ℕ} bookBytes 0)
+same_length c = c.before.loop.invariant.1.long ∙ sym (ap length c.before.before.before.requires.0 ∙ length-replicate {A = ℕ} book_bytes 0)
 
 returns : tie.Need-returns invariant-loop decreases-loop
 returns c =

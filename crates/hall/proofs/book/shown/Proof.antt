@@ -6,17 +6,17 @@ use mathlib.Core.Path.{◌≡◌, refl, sym, ap, ◌∙◌}
 use native.Mathlib.Omega.{arith}
 use lib.ListN.{length-take, length-drop}
 use Rattle.table.specs.Rows.{capacity}
-use Rattle.accord.specs.Rulings.{anyBelow}
-use Rattle.hall.specs.Book.{row_at, rowShows, shownIn}
+use Rattle.accord.specs.Rulings.{any_below}
+use Rattle.hall.specs.Book.{row_at, row_shows, shown_in}
 use Rattle.hall.proofs.Rows.{any-more, any-yes, part-row}
 use Rattle.hall.proofs.book.shown.Statement.{statement}
 use Rattle.hall.proofs.book.shown.Tie as tie
 
 abbrev ok : List ℕ → ℕ → List ℕ → ℕ → Bool
-ok book i name j = rowShows (row_at book (capacity * i + j)) name
+ok book i name j = row_shows (row_at book (capacity * i + j)) name
 
 abbrev invariant-loop : tie.invariant-loop
-invariant-loop book i name first k₀ k = (k ≤ capacity) × (anyBelow k (ok book i name) ≡ false)
+invariant-loop book i name first k₀ k = (k ≤ capacity) × (any_below k (ok book i name) ≡ false)
 
 abbrev decreases-loop : tie.decreases-loop
 decreases-loop book i name first k₀ k = capacity - k
@@ -25,17 +25,17 @@ decreases-loop book i name first k₀ k = capacity - k
 this-row : (c : tie.After-row-shows invariant-loop decreases-loop)
     → let l = c.before.before.before in
     let a = l.before.before.args in
-    c.row_Shows.result ≡ ok a.book.now a.i a.name l.loop.k
+    c.row_shows.result ≡ ok a.book.now a.i a.name l.loop.k
 this-row c =
     let l = c.before.before.before in
     let a = l.before.before.args in
-    c.row_Shows.ensures ∙ ap (λ (r : List ℕ). rowShows r a.name) (part-row a.book.now (capacity * a.i + l.loop.k))
+    c.row_shows.ensures ∙ ap (λ (r : List ℕ). row_shows r a.name) (part-row a.book.now (capacity * a.i + l.loop.k))
 
 mul-first : tie.Need-overflow-mul-first invariant-loop decreases-loop
 mul-first c = omega arith
 
 loop-holds : tie.Need-loop-init invariant-loop decreases-loop
-unfolding anyBelow
+unfolding any_below
 loop-holds c = (omega arith, refl)
 
 add_at : tie.Need-overflow-add-at invariant-loop decreases-loop
@@ -60,7 +60,7 @@ row-shows-requires : tie.Need-row-shows-requires invariant-loop decreases-loop
 row-shows-requires c κs = simp (length-take, length-drop) (omega arith)
 
 returns : tie.Need-returns invariant-loop decreases-loop
-unfolding shownIn
+unfolding shown_in
 returns c =
     let l = c.before.before.before.before in
     let a = l.before.before.args in
@@ -79,12 +79,12 @@ loop-again c =
     (omega arith, any-more l.loop.k (ok a.book.now a.i a.name) l.loop.invariant.1 (sym (this-row c.before) ∙ c.if1.false))
 
 returns-2 : tie.Need-returns-2 invariant-loop decreases-loop
-unfolding shownIn
+unfolding shown_in
 returns-2 c =
     let l = c.before in
     let a = l.before.before.args in
     let end : l.loop.k ≡ capacity = omega arith in
-    sym (ap (λ (n : ℕ). anyBelow n (ok a.book.now a.i a.name)) (sym end) ∙ l.loop.invariant.1)
+    sym (ap (λ (n : ℕ). any_below n (ok a.book.now a.i a.name)) (sym end) ∙ l.loop.invariant.1)
 
 pub shown-spec : {M : Type 1} → statement M
 shown-spec =

@@ -8,8 +8,8 @@ use borrow.Author.Rules.{rules}
 use borrow.Author.Tests.{not-false}
 use lib.ListN.{get_or}
 use Rattle.table.specs.Scan.{all_below}
-use Rattle.pala.specs.Run.{fullList}
-use Rattle.hall.specs.Lists.{begun, listsBytes}
+use Rattle.pala.specs.Run.{full_list}
+use Rattle.hall.specs.Lists.{begun, lists_bytes}
 use Rattle.hall.proofs.Parts.{below_fails, below_next}
 use Rattle.hall.proofs.Agreeing.{begun-not, begun-read}
 use Rattle.hall.proofs.chains.agrees_before.Statement.{statement}
@@ -23,15 +23,15 @@ decreases-loop lists i counts honest from to j₀ j = i - j
 
 -- the list lies in its room
 module _ (c : tie.After-names-bytes invariant-loop decreases-loop) where
-  first-most : c.names-bytes.result ≤ fullList
+  first-most : c.names-bytes.result ≤ full_list
   first-most =
       let s = c.before.before in
       omega (arith, c.names-bytes.ensures, s.requires.0.most s.args.i s.requires.1)
 
-  room : fullList * c.before.before.args.i + fullList ≤ listsBytes
+  room : full_list * c.before.before.args.i + full_list ≤ lists_bytes
   room = omega (arith, c.before.before.requires.1)
 
-second-most : (c : tie.After-names-bytes2 invariant-loop decreases-loop) → c.names-bytes2.result ≤ fullList
+second-most : (c : tie.After-names-bytes2 invariant-loop decreases-loop) → c.names-bytes2.result ≤ full_list
 second-most c =
     let l = c.before.before.before in
     let s = l.before.before.before in

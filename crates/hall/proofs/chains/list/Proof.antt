@@ -2,7 +2,7 @@
 use Prim.Native.Nat.{◌+◌, ◌*◌, ◌-◌}
 use native.Mathlib.Omega.{arith}
 use borrow.Author.Rules.{rules}
-use Rattle.pala.specs.Run.{fullList}
+use Rattle.pala.specs.Run.{full_list}
 use Rattle.hall.proofs.Listing.{list_put}
 use Rattle.hall.proofs.chains.list.Statement.{statement}
 use Rattle.hall.proofs.chains.list.Tie as tie
@@ -33,8 +33,8 @@ returns c =
     let f = c.before.before in
     let start = f.before.before.before in
     let a = start.args in
-    let from = fullList * a.i in
-    list_put a.s a.lists.now from (from + fullList - from) _ _ _ start.requires.2 (omega arith) (omega arith) f.final-list-shaped.ensures f.final-list-shaped.auto.1.0
+    let from = full_list * a.i in
+    list_put a.s a.lists.now from (from + full_list - from) _ _ _ start.requires.2 (omega arith) (omega arith) f.final-list-shaped.ensures f.final-list-shaped.auto.1.0
 
 pub list-spec : {M : Type 1} → statement M
 list-spec =

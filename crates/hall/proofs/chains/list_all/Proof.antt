@@ -5,25 +5,25 @@ use mathlib.Core.Path.{◌≡◌, ◌∙◌, ap, sym}
 use native.Mathlib.Omega.{arith}
 use lib.ListN.{get_or}
 use Rattle.table.specs.declared.State.{State}
-use Rattle.pala.specs.Shape.{wellShaped}
-use Rattle.accord.specs.Head.{gateway, honestIn, mostGateways}
+use Rattle.pala.specs.Shape.{well_shaped}
+use Rattle.accord.specs.Head.{gateway, honest_in, most_gateways}
 use Rattle.hall.proofs.Seated.{gateway-read}
 use Rattle.hall.proofs.Agreeing.{ListedTo, listed-all, listed-as, listed_more, listed-none, listed-silent}
 use Rattle.hall.proofs.chains.list_all.Statement.{statement}
 use Rattle.hall.proofs.chains.list_all.Tie as tie
 
 abbrev invariant-loop : tie.invariant-loop
-invariant-loop lists₀ h counts₀ i₀ lists counts i = (i ≤ mostGateways) × ListedTo h i lists counts
+invariant-loop lists₀ h counts₀ i₀ lists counts i = (i ≤ most_gateways) × ListedTo h i lists counts
 
 abbrev decreases-loop : tie.decreases-loop
-decreases-loop lists₀ h counts₀ i₀ lists counts i = mostGateways - i
+decreases-loop lists₀ h counts₀ i₀ lists counts i = most_gateways - i
 
 -- what a turn of an honest number reads is that gateway's state
 shown : (c : tie.Then1 invariant-loop decreases-loop)
     → let l = c.before.before.before in
     let h = l.before.before.args.t2 in
     (l.loop.i < h.n) × ((d : State) → get_or h.states l.loop.i d ≡ gateway h l.loop.i)
-unfolding honestIn
+unfolding honest_in
 shown c =
     let l = c.before.before.before in
     let k = l.before.before.requires.1 in
@@ -46,7 +46,7 @@ list-requires : tie.Need-list-requires invariant-loop decreases-loop
 list-requires c κs =
     let l = c.before.before.before.before.before in
     let s = shown c.before.before in
-    (l.loop.invariant.1.fit.long, omega arith, ap wellShaped (s.1 _) ∙ l.before.before.requires.1.shaped l.loop.i s.0)
+    (l.loop.invariant.1.fit.long, omega arith, ap well_shaped (s.1 _) ∙ l.before.before.requires.1.shaped l.loop.i s.0)
 
 mul-counts : tie.Need-overflow-mul-counts invariant-loop decreases-loop
 mul-counts c = omega arith
@@ -61,11 +61,11 @@ loop-less : tie.Need-loop-smaller invariant-loop decreases-loop
 loop-less c = omega arith
 
 loop-again : tie.Need-loop-preserved invariant-loop decreases-loop
-unfolding honestIn
+unfolding honest_in
 loop-again c =
     let l = c.before.before.before in
     let w = l.loop.invariant.1 in
-    let low : l.loop.i < mostGateways = omega arith in (
+    let low : l.loop.i < most_gateways = omega arith in (
       omega arith,
       ⊎_elim
           (λ x. listed-as (x.6 ∙ x.3.ensures.2) x.7 (listed_more w _ _ ((shown (record { before = c.before; if1 = x.0 })).1 _) low x.3.ensures.1 x.3.ensures.3))

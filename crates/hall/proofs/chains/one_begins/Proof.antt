@@ -8,7 +8,7 @@ use native.Mathlib.Omega.{arith}
 use lib.Dec.{eqb}
 use lib.ListN.{get_or, length}
 use Rattle.table.specs.Scan.{all_below}
-use Rattle.table.proofs.Laws.{allBelow-step}
+use Rattle.table.proofs.Laws.{all_below-step}
 use Rattle.hall.proofs.Agreeing.{one-begins-is}
 use Rattle.hall.proofs.chains.one_begins.Statement.{statement}
 use Rattle.hall.proofs.chains.one_begins.Tie as tie
@@ -47,7 +47,7 @@ loop-again c =
     let l = c.before.before.before in
     let x = l.before.before.args in
     let here = ok x.a.now x.b.now in
-    (omega arith, ap (λ (t : Bool). t && here l.loop.k) l.loop.invariant.1 ∙ sym (allBelow-step l.loop.k here))
+    (omega arith, ap (λ (t : Bool). t && here l.loop.k) l.loop.invariant.1 ∙ sym (all_below-step l.loop.k here))
 
 returns : tie.Need-returns invariant-loop decreases-loop
 returns c =

@@ -7,7 +7,7 @@ use Rattle.table.specs.declared.Answer.{Answer}
 use Rattle.accord.specs.declared.Hall.{Hall}
 use Rattle.accord.specs.Head.{Opened}
 use Rattle.hall.specs.declared.heads.Opening.{Opening}
-use Rattle.hall.proofs.Fresh.{bitsTest, bits-read, hall-read, opened-bits, opened-cut, opened-fresh, opened-many, opened-none}
+use Rattle.hall.proofs.Fresh.{bits_test, bits-read, hall-read, opened-bits, opened-cut, opened-fresh, opened-many, opened-none}
 use Rattle.hall.proofs.heads.open.Statement.{statement}
 use Rattle.hall.proofs.heads.open.Tie as tie
 
@@ -15,7 +15,7 @@ abbrev told : Opening → Opened
 told o = record { answer = o.answer; hall = o.hall }
 
 -- what is asked of the set is what the head is asked
-bits : (c : tie.After-all-below) → c.all-below.result ≡ bitsTest c.before.before.before.before.before.before.before.before.before.args.head.now
+bits : (c : tie.After-all-below) → c.all-below.result ≡ bits_test c.before.before.before.before.before.before.before.before.before.args.head.now
 bits c =
     let w = c.before.before.before.before.before in
     c.all-below.ensures ∙ bits-read w.before.before.before.before.args.head.now _ _ w.wide.ensures c.before.honest-of.ensures

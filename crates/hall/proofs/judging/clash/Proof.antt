@@ -2,7 +2,7 @@
 use borrow.Author.Rules.{rules}
 use mathlib.Core.Path.{refl}
 use lib.ListN.{replicate}
-use Rattle.pala.specs.Record.{recordBytes}
+use Rattle.pala.specs.Record.{record_bytes}
 use Rattle.hall.proofs.Judged.{clash-row}
 use Rattle.hall.proofs.judging.clash.Statement.{statement}
 use Rattle.hall.proofs.judging.clash.Tie as tie
@@ -23,7 +23,7 @@ returns : tie.Need-returns
 returns c =
     let w = c.before.before.before in
     let a = w.before.before.before.before.before.args in
-    clash-row a.book.now (replicate recordBytes 0) _ a.f a.epoch.0 a.parent _ refl w.write.ensures c.clashes.ensures
+    clash-row a.book.now (replicate record_bytes 0) _ a.f a.epoch.0 a.parent _ refl w.write.ensures c.clashes.ensures
 
 pub clash-spec : {M : Type 1} → statement M
 clash-spec =

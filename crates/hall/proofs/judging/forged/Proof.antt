@@ -4,7 +4,7 @@ use borrow.Author.Tests.{not-true, not-false}
 use mathlib.Core.Bool.{Bool, true, false, not, ◌&&◌}
 use mathlib.Core.Path.{◌≡◌, ap, sym, ◌∙◌}
 use lib.ListN.{get_or}
-use Rattle.hall.specs.Book.{shownIn}
+use Rattle.hall.specs.Book.{shown_in}
 use Rattle.hall.proofs.Verdicts.{flag-below}
 use Rattle.hall.proofs.judging.forged.Statement.{statement}
 use Rattle.hall.proofs.judging.forged.Tie as tie
@@ -15,7 +15,7 @@ honest-at-requires c κs = search rules
 returns : tie.Need-returns
 returns c =
     let a = c.before.before.before.args in
-    ap (λ (b : Bool). b && not (shownIn a.book.now a.who a.name)) (sym (sym c.before.honest-at.ensures ∙ not-true _ c.if1.true))
+    ap (λ (b : Bool). b && not (shown_in a.book.now a.who a.name)) (sym (sym c.before.honest-at.ensures ∙ not-true _ c.if1.true))
 
 -- past the test the number is honest
 told : (c : tie.Else1) → get_or c.before.before.before.args.honest c.before.before.before.args.who false ≡ true
@@ -28,7 +28,7 @@ shown-requires c κs =
 returns-2 : tie.Need-returns-2
 returns-2 c =
     let a = c.before.before.before.before.args in
-    ap not c.shown.ensures ∙ ap (λ (b : Bool). b && not (shownIn a.book.now a.who a.name)) (sym (told c.before))
+    ap not c.shown.ensures ∙ ap (λ (b : Bool). b && not (shown_in a.book.now a.who a.name)) (sym (told c.before))
 
 pub forged-spec : {M : Type 1} → statement M
 forged-spec = tie.close (tie.spec honest-at-requires returns shown-requires returns-2)

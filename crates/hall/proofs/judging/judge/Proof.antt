@@ -5,7 +5,7 @@ use lib.ListN.{get_or}
 use mathlib.Core.Bool.{true, false}
 use mathlib.Core.Logic.{⊎_elim}
 use mathlib.Core.Path.{◌≡◌, sym, ◌∙◌}
-use Rattle.pala.specs.Record.{proposalHeard, voteHeard}
+use Rattle.pala.specs.Record.{proposal_heard, vote_heard}
 use Rattle.hall.proofs.Judged.{unshown, clashes, judged-stranger, judged-forged, judged-clash, judged-answer}
 use Rattle.hall.proofs.judging.judge.Statement.{statement}
 use Rattle.hall.proofs.judging.judge.Tie as tie
@@ -39,7 +39,7 @@ returns-2 c =
 genuine :
     (c : tie.Joined2)
     → let a = (start c.before).args in
-    a.d.fields.kind ≡ voteHeard → unshown a.book.now a.honest a.to a.d ≡ false
+    a.d.fields.kind ≡ vote_heard → unshown a.book.now a.honest a.to a.d ≡ false
 genuine c e = ⊎_elim (λ w. sym w.2.ensures ∙ w.3.left) (λ w. absurd (w.left e)) c.if2.branch
 
 clash-requires : tie.Need-clash-requires
@@ -59,7 +59,7 @@ number-of-requires c κs = search rules
 single :
     (c : tie.Joined4)
     → let a = (start c.before.before).args in
-    a.d.fields.kind ≡ proposalHeard → clashes a.book.now a.honest a.to a.d ≡ false
+    a.d.fields.kind ≡ proposal_heard → clashes a.book.now a.honest a.to a.d ≡ false
 single c e = ⊎_elim (λ w. sym w.2.ensures ∙ w.3.left) (λ w. absurd (w.left e)) c.if4.branch
 
 returns-4 : tie.Need-returns-4

@@ -5,8 +5,8 @@ use Prim.Native.Nat.{◌<◌}
 use Rattle.table.specs.declared.Block.{Block}
 use Rattle.table.specs.Rows.{at, rows}
 use Rattle.rules.specs.declared.Top.{Top}
-use Rattle.hall.specs.Judged.{clashedIn}
-use Rattle.hall.proofs.Judged.{clashesOwn, own-stranger, own-clashes, own-told}
+use Rattle.hall.specs.Judged.{clashed_in}
+use Rattle.hall.proofs.Judged.{clashes_own, own-stranger, own-clashes, own-told}
 use Rattle.hall.proofs.judging.judge_own.Statement.{statement}
 use Rattle.hall.proofs.judging.judge_own.Tie as tie
 
@@ -32,12 +32,12 @@ clash-requires c κs = search rules
 abbrev start : tie.After-clash → tie.Start
 start c = c.before.before.before.before.before.before.before.before
 
-looked : (c : tie.After-clash) → c.clash.result ≡ clashesOwn (start c).args.book.now (start c).args.s (start c).args.d.fields (start c).args.told
+looked : (c : tie.After-clash) → c.clash.result ≡ clashes_own (start c).args.book.now (start c).args.s (start c).args.d.fields (start c).args.told
 looked c =
     let a = (start c).args in
     let t = c.before.before.before in
     c.clash.ensures
-    ∙ ap (λ (b : Block). clashedIn a.book.now a.d.fields a.s.local.0 b.name) (t.at.ensures ∙ ap (λ (x : Top). at (rows a.s) x.place.0) t.before.before.freshest.ensures)
+    ∙ ap (λ (b : Block). clashed_in a.book.now a.d.fields a.s.local.0 b.name) (t.at.ensures ∙ ap (λ (x : Top). at (rows a.s) x.place.0) t.before.before.freshest.ensures)
 
 returns-2 : tie.Need-returns-2
 returns-2 c =

@@ -7,10 +7,10 @@ use mathlib.Core.Path.{◌≡◌, refl, ap, sym, ◌∙◌}
 use native.Mathlib.Omega.{arith}
 use Prim.Native.Nat.{ℕ}
 use Rattle.pala.specs.Run.{cut}
-use Rattle.accord.specs.Head.{hallShaped}
-use Rattle.accord.specs.Text.{sentBytes}
+use Rattle.accord.specs.Head.{hall_shaped}
+use Rattle.accord.specs.Text.{sent_bytes}
 use Rattle.hall.specs.declared.pieces.Told.{Told}
-use Rattle.hall.specs.Lists.{listsBytes}
+use Rattle.hall.specs.Lists.{lists_bytes}
 use Rattle.hall.specs.Play.{HallPiece, HallReady}
 use Rattle.hall.proofs.Answered.{sent-count, piece-unshaped, piece-short, piece-over, piece-played}
 use Rattle.hall.proofs.pieces.play.Statement.{statement}
@@ -40,10 +40,10 @@ stretch-count-requires c κs = search rules
 abbrev start : tie.After-stretch-count → tie.Start
 start c = c.before.before.before.before.before
 
-shaped : (c : tie.After-stretch-count) → hallShaped (start c).args.h ≡ true
+shaped : (c : tie.After-stretch-count) → hall_shaped (start c).args.h ≡ true
 shaped c = sym c.before.before.hall-shaped.ensures.0 ∙ not-false _ c.before.if1.false
 
-many : (c : tie.After-stretch-count) → c.stretch-count.result ≡ length (cut sentBytes (start c).args.input.now)
+many : (c : tie.After-stretch-count) → c.stretch-count.result ≡ length (cut sent_bytes (start c).args.input.now)
 many c = c.stretch-count.ensures ∙ sym (sent-count (start c).args.input.now)
 
 handed-requires-2 : tie.Need-handed-requires-2
@@ -84,7 +84,7 @@ ready c =
     record { kept = k.before.before.hall-shaped.ensures.1 (not-false _ k.before.if1.false); fits = omega (arith, many k); number = omega (arith, many k) }
 
 play-records-requires : tie.Need-play-records-requires
-play-records-requires c κs = (ready c.before.before.before, refl, length-replicate {A = ℕ} listsBytes 0)
+play-records-requires c κs = (ready c.before.before.before, refl, length-replicate {A = ℕ} lists_bytes 0)
 
 same_length : tie.Need-same-length
 same_length c = search rules

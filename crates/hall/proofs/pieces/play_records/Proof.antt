@@ -10,24 +10,24 @@ use mathlib.Core.Path.{◌≡◌, refl, sym, ap, subst, ◌∙◌}
 use native.Mathlib.Omega.{arith}
 use Rattle.table.specs.declared.State.{State}
 use Rattle.table.specs.Scan.{pick}
-use Rattle.pala.specs.Record.{proposeNow}
+use Rattle.pala.specs.Record.{propose_now}
 use Rattle.pala.specs.Run.{cut, lent}
-use Rattle.pala.specs.Shape.{wellShaped}
+use Rattle.pala.specs.Shape.{well_shaped}
 use Rattle.pala.specs.Step.{step}
 use Rattle.node.specs.declared.Decision.{Decision}
 use Rattle.node.specs.Moves.{decision}
-use Rattle.lines.specs.Play.{lastNumber}
+use Rattle.lines.specs.Play.{last_number}
 use Rattle.lines.proofs.Going.{Going, going_start, going_next, going-numbered, going-length, going-room, going_end}
 use Rattle.accord.specs.declared.Hall.{Hall}
 use Rattle.accord.specs.Head.{gateway}
-use Rattle.accord.specs.Rulings.{seated, verdict, verdictNumber}
-use Rattle.accord.specs.Text.{sentBytes}
-use Rattle.hall.specs.Book.{bookBytes}
+use Rattle.accord.specs.Rulings.{seated, verdict, verdict_number}
+use Rattle.accord.specs.Text.{sent_bytes}
+use Rattle.hall.specs.Book.{book_bytes}
 use Rattle.hall.specs.declared.pieces.Told.{Told}
 use Rattle.hall.specs.Play.{HallPiece, Live, Moving}
-use Rattle.hall.proofs.Judged.{told-own, told-other, toldBy}
+use Rattle.hall.proofs.Judged.{told-own, told-other, told_by}
 use Rattle.hall.proofs.Seated.{gateway-read}
-use Rattle.hall.proofs.Telling.{hallTale, hall-end, hall-recorded, sent-to, sent-record}
+use Rattle.hall.proofs.Telling.{hall_tale, hall-end, hall-recorded, sent-to, sent-record}
 use Rattle.hall.proofs.Turned.{Turned, Admitted, turn-refused, turn-taken, turn-as, turned-flags, admitted, admitted-taken}
 use Rattle.hall.proofs.Verdicts.{Seat, seat-of, told_is}
 use Rattle.hall.proofs.pieces.play_records.Statement.{statement}
@@ -36,8 +36,8 @@ use Rattle.hall.proofs.pieces.play_records.Tie as tie
 abbrev invariant-loop : tie.invariant-loop
 invariant-loop before input text₀ book₀ lists₀ beside₀ honest n hall₀ k₀ from₀ end₀ text book lists beside hall k from end =
     Live hall book lists beside.counts beside.word × (honest ≡ hall.honest) × (n ≡ hall.n)
-    × (before + length (cut sentBytes input) ≤ lastNumber)
-    × Going hallTale hall₀ before input text₀ hall k from end text
+    × (before + length (cut sent_bytes input) ≤ last_number)
+    × Going hall_tale hall₀ before input text₀ hall k from end text
 
 abbrev decreases-loop : tie.decreases-loop
 decreases-loop before input text₀ book₀ lists₀ beside₀ honest n hall₀ k₀ from₀ end₀ text book lists beside hall k from end =
@@ -50,7 +50,7 @@ loop-holds : tie.Need-loop-init invariant-loop decreases-loop
 loop-holds c =
     let o = c.before.before.before.before.before in
     let p = o.before.before.before.before.before.before.before.requires in
-    (o.set_out.ensures, refl, refl, p.0.number, going_start hallTale p.0.fits)
+    (o.set_out.ensures, refl, refl, p.0.number, going_start hall_tale p.0.fits)
 
 sub-stretch : tie.Need-overflow-sub-stretch invariant-loop decreases-loop
 sub-stretch c = omega arith
@@ -59,8 +59,8 @@ stretch-requires : tie.Need-stretch-requires invariant-loop decreases-loop
 stretch-requires c κs = search rules
 
 -- there is a number for the record
-numbered : (c : tie.In-loop invariant-loop decreases-loop) → c.before.loop.k < lastNumber
-numbered c = let i = c.before.loop.invariant in going-numbered hallTale i.4 c.loop-test.true i.3
+numbered : (c : tie.In-loop invariant-loop decreases-loop) → c.before.loop.k < last_number
+numbered c = let i = c.before.loop.invariant in going-numbered hall_tale i.4 c.loop-test.true i.3
 
 add-k : tie.Need-overflow-add-k invariant-loop decreases-loop
 add-k c = omega (arith, numbered c.before)
@@ -120,8 +120,8 @@ state c =
 reads : (c : tie.After-seat invariant-loop decreases-loop) → state c ≡ gateway (hall c) c.seat.result
 reads c = gateway-read (live c).kept c.seat.result _ (sits c).inside
 
-shaped : (c : tie.After-seat invariant-loop decreases-loop) → wellShaped (state c) ≡ true
-shaped c = subst (λ s. wellShaped s ≡ true) (sym (reads c)) ((live c).kept.shaped c.seat.result (sits c).inside)
+shaped : (c : tie.After-seat invariant-loop decreases-loop) → well_shaped (state c) ≡ true
+shaped c = subst (λ s. well_shaped s ≡ true) (sym (reads c)) ((live c).kept.shaped c.seat.result (sits c).inside)
 
 mul-decide-shaped : tie.Need-overflow-mul-decide-shaped invariant-loop decreases-loop
 mul-decide-shaped c = record { fits = omega (arith, low c) }
@@ -173,33 +173,33 @@ sat c = c.before.before.before.before.before.before.before
 abbrev honest : tie.Joined1 invariant-loop decreases-loop → List Bool
 honest c = (start (head (sat c))).args.h.honest
 
-abbrev verdictOf : tie.Joined1 invariant-loop decreases-loop → Decision
-verdictOf c = c.before.before.before.before.decide-shaped.result
+abbrev verdict_of : tie.Joined1 invariant-loop decreases-loop → Decision
+verdict_of c = c.before.before.before.before.decide-shaped.result
 
-decided : (c : tie.Joined1 invariant-loop decreases-loop) → verdictOf c ≡ decision (gateway (hall (sat c)) (sat c).seat.result) (rec (sat c))
+decided : (c : tie.Joined1 invariant-loop decreases-loop) → verdict_of c ≡ decision (gateway (hall (sat c)) (sat c).seat.result) (rec (sat c))
 decided c = c.before.before.before.before.decide-shaped.ensures ∙ ap (λ (s : State). decision s (rec (sat c))) (reads (sat c))
 
 -- an epoch has 32 bits
-epoch-low : (c : tie.Joined1 invariant-loop decreases-loop) → (verdictOf c).fields.epoch.0 < 4294967296
+epoch-low : (c : tie.Joined1 invariant-loop decreases-loop) → (verdict_of c).fields.epoch.0 < 4294967296
 epoch-low c = search rules
 
-local-low : (c : tie.Joined1 invariant-loop decreases-loop) → (verdictOf c).fields.kind ≡ proposeNow → (gateway (hall (sat c)) (sat c).seat.result).local.0 < 4294967296
+local-low : (c : tie.Joined1 invariant-loop decreases-loop) → (verdict_of c).fields.kind ≡ propose_now → (gateway (hall (sat c)) (sat c).seat.result).local.0 < 4294967296
 local-low c e =
     ⊎_elim (λ w. subst (λ s. s.local.0 < 4294967296) (reads (sat c)) w.3.ensures.1) (λ w. absurd (w.0.left e)) c.if1.branch
 
-told : (c : tie.Joined1 invariant-loop decreases-loop) → c.if1.told ≡ toldBy (head (sat c)).loop.book (honest c) (to (sat c)) (state (sat c)) (verdictOf c)
+told : (c : tie.Joined1 invariant-loop decreases-loop) → c.if1.told ≡ told_by (head (sat c)).loop.book (honest c) (to (sat c)) (state (sat c)) (verdict_of c)
 told c =
     let judges = c.before.before.judge.ensures in
     ⊎_elim
-    (λ w. w.4 ∙ told-own (head (sat c)).loop.book (honest c) (to (sat c)) (state (sat c)) (verdictOf c) judges w.0.taken w.3.ensures.0)
-    (λ w. w.1 ∙ told-other (head (sat c)).loop.book (honest c) (to (sat c)) (state (sat c)) (verdictOf c) judges w.0.left)
+    (λ w. w.4 ∙ told-own (head (sat c)).loop.book (honest c) (to (sat c)) (state (sat c)) (verdict_of c) judges w.0.taken w.3.ensures.0)
+    (λ w. w.1 ∙ told-other (head (sat c)).loop.book (honest c) (to (sat c)) (state (sat c)) (verdict_of c) judges w.0.left)
     c.if1.branch
 
-answered : (c : tie.Joined1 invariant-loop decreases-loop) → c.if1.told ≡ verdictNumber (verdict (hall (sat c)) (to (sat c)) (rec (sat c)))
+answered : (c : tie.Joined1 invariant-loop decreases-loop) → c.if1.told ≡ verdict_number (verdict (hall (sat c)) (to (sat c)) (rec (sat c)))
 answered c =
     let l = live (sat c) in
     told c
-    ∙ (λ j. toldBy (head (sat c)).loop.book ((head (sat c)).loop.inv.1 j) (to (sat c)) (reads (sat c) j) (verdictOf c))
+    ∙ (λ j. told_by (head (sat c)).loop.book ((head (sat c)).loop.inv.1 j) (to (sat c)) (reads (sat c) j) (verdict_of c))
     ∙ told_is l.kept l.pages (sits (sat c)) (rec (sat c)) (decided c) (epoch-low c) (local-low c)
 
 -- ---- a taken record
@@ -227,11 +227,11 @@ take-shaped-requires c κs =
       (_, j.before.before.before.before.decide-shaped.ensures),
     )
 
-module _ (c : tie.Joined1 invariant-loop decreases-loop) (z : c.if1.told ≡ 0) {t : State} (e : (r : List ℕ) → verdictOf c ≡ decision (state (sat c)) r → t ≡ (step (state (sat c)) r lent).state) where
+module _ (c : tie.Joined1 invariant-loop decreases-loop) (z : c.if1.told ≡ 0) {t : State} (e : (r : List ℕ) → verdict_of c ≡ decision (state (sat c)) r → t ≡ (step (state (sat c)) r lent).state) where
   next : t ≡ (step (gateway (hall (sat c)) (sat c).seat.result) (rec (sat c)) lent).state
   next = e (rec (sat c)) c.before.before.before.before.decide-shaped.ensures ∙ ap (λ (s : State). (step s (rec (sat c)) lent).state) (reads (sat c))
 
-  moving : Moving (hall (sat c)) (rec (sat c)) (head (sat c)).loop.book (head (sat c)).loop.lists (head (sat c)).loop.beside.counts (head (sat c)).loop.beside.word (honest c) (sat c).seat.result t (verdictOf c) (state (sat c)).kept.0
+  moving : Moving (hall (sat c)) (rec (sat c)) (head (sat c)).loop.book (head (sat c)).loop.lists (head (sat c)).loop.beside.counts (head (sat c)).loop.beside.word (honest c) (sat c).seat.result t (verdict_of c) (state (sat c)).kept.0
   moving =
       record {
         live = live (sat c);
@@ -289,20 +289,20 @@ loop-again c =
       l.inv.1 ∙ (turned-flags t).0,
       l.inv.2 ∙ (turned-flags t).1,
       l.inv.3,
-      going_next hallTale l.inv.4 (inside a).loop-test.taken a.before.before.before.stretch.ensures
+      going_next hall_tale l.inv.4 (inside a).loop-test.taken a.before.before.before.stretch.ensures
           (hall-recorded (sent-to (bytes a) l.from (size a) (inside a).loop-test.taken (stretched a).0 ∙ sym a.before.wide.ensures.0)
           (sent-record (bytes a) l.from (size a) (inside a).loop-test.taken (stretched a).0) t (answered m.before)
-          (going-room hallTale l.inv.4 (inside a).loop-test.taken) (omega (arith, numbered (inside a))) q.put-said.ensures),
+          (going-room hall_tale l.inv.4 (inside a).loop-test.taken) (omega (arith, numbered (inside a))) q.put-said.ensures),
     )
 
 handed-requires : tie.Need-handed-requires invariant-loop decreases-loop
 handed-requires c κs = search rules
 
 same_length : tie.Need-same-length invariant-loop decreases-loop
-same_length c = going-length hallTale c.before.before.loop.invariant.4
+same_length c = going-length hall_tale c.before.before.loop.invariant.4
 
 same-length-2 : tie.Need-same-length-2 invariant-loop decreases-loop
-same-length-2 c = c.before.before.loop.invariant.0.pages.long ∙ sym (ap length (start c.before.before).pre.1 ∙ length-replicate {A = ℕ} bookBytes 0)
+same-length-2 c = c.before.before.loop.invariant.0.pages.long ∙ sym (ap length (start c.before.before).pre.1 ∙ length-replicate {A = ℕ} book_bytes 0)
 
 same-length-3 : tie.Need-same-length-3 invariant-loop decreases-loop
 same-length-3 c = c.before.before.loop.invariant.0.listed.fit.long ∙ sym (start c.before.before).pre.2
@@ -311,7 +311,7 @@ returns : tie.Need-returns invariant-loop decreases-loop
 returns c =
     let l = c.before.before.loop in
     ap {B = HallPiece} (λ (x : Told). record { answer = x.answer; hall = x.hall; before = x.before; length = x.length; text = l.text }) c.handed.ensures
-    ∙ hall-end (going_end hallTale l.invariant.4 c.before.loop-test.false)
+    ∙ hall-end (going_end hall_tale l.invariant.4 c.before.loop-test.false)
 
 pub play-records-spec : {M : Type 1} → statement M
 play-records-spec =

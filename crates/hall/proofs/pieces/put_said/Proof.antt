@@ -4,8 +4,8 @@ use mathlib.Core.List.{List}
 use mathlib.Core.Path.{ap, sym, ◌∙◌}
 use Prim.Native.Nat.{ℕ}
 use Rattle.table.proofs.Laws.{pick_yes, pick_no}
-use Rattle.lines.specs.Text.{wordedAt}
-use Rattle.accord.specs.Text.{yesWord, no_word}
+use Rattle.lines.specs.Text.{worded_at}
+use Rattle.accord.specs.Text.{yes_word, no_word}
 use Rattle.hall.proofs.pieces.put_said.Statement.{statement}
 use Rattle.hall.proofs.pieces.put_said.Tie as tie
 
@@ -23,7 +23,7 @@ returns c =
     let t = c.before.before.before.before.before in
     let a = t.before.before.args in
     c.before.before.put-worded.ensures
-    ∙ ap (λ (w : List ℕ). wordedAt a.k a.told w a.at a.text.now) (sym (pick_yes a.word yesWord no_word t.if1.true))
+    ∙ ap (λ (w : List ℕ). worded_at a.k a.told w a.at a.text.now) (sym (pick_yes a.word yes_word no_word t.if1.true))
 
 slice-aggregate-put-worded-2 : tie.Need-slice-aggregate-put-worded-2
 slice-aggregate-put-worded-2 c = search rules
@@ -39,7 +39,7 @@ returns-2 c =
     let t = c.before.before.before.before.before in
     let a = t.before.before.args in
     c.before.before.put-worded2.ensures
-    ∙ ap (λ (w : List ℕ). wordedAt a.k a.told w a.at a.text.now) (sym (pick_no a.word yesWord no_word t.if1.false))
+    ∙ ap (λ (w : List ℕ). worded_at a.k a.told w a.at a.text.now) (sym (pick_no a.word yes_word no_word t.if1.false))
 
 pub put-said-spec : {M : Type 1} → statement M
 put-said-spec =

@@ -10,7 +10,7 @@ use lib.Dec.{ltb}
 use lib.ListN.{get_or}
 use Rattle.table.specs.Scan.{all_below}
 use Rattle.pala.proofs.Tests.{or_l, or_r}
-use Rattle.accord.specs.Head.{mostGateways}
+use Rattle.accord.specs.Head.{most_gateways}
 use Rattle.hall.proofs.Parts.{below_fails, below_next}
 use Rattle.hall.proofs.seats.all_below.Statement.{statement}
 use Rattle.hall.proofs.seats.all_below.Tie as tie
@@ -19,10 +19,10 @@ abbrev ok : ℕ → List Bool → ℕ → Bool
 ok n honest i = ltb i n || not (get_or honest i false)
 
 abbrev invariant-loop : tie.invariant-loop
-invariant-loop n honest i₀ i = (i ≤ mostGateways) × (all_below i (ok n honest) ≡ true)
+invariant-loop n honest i₀ i = (i ≤ most_gateways) × (all_below i (ok n honest) ≡ true)
 
 abbrev decreases-loop : tie.decreases-loop
-decreases-loop n honest i₀ i = mostGateways - i
+decreases-loop n honest i₀ i = most_gateways - i
 
 loop-holds : tie.Need-loop-init invariant-loop decreases-loop
 unfolding all_below
@@ -39,7 +39,7 @@ returns c =
     let l = c.before.before.before in
     let a = l.before.args in
     let fails = ap₂ (λ (x y : Bool). x || not y) (le-ltb l.loop.i a.n c.before.if1.true) c.if2.true in
-    below_fails mostGateways (ok a.n a.t1) l.loop.i false (omega arith) (sym fails) refl
+    below_fails most_gateways (ok a.n a.t1) l.loop.i false (omega arith) (sym fails) refl
 
 add-i : tie.Need-overflow-add-i invariant-loop decreases-loop
 add-i c = omega arith
@@ -61,7 +61,7 @@ returns-2 : tie.Need-returns-2 invariant-loop decreases-loop
 returns-2 c =
     let l = c.before in
     let a = l.before.args in
-    let end : mostGateways ≡ l.loop.i = omega arith in
+    let end : most_gateways ≡ l.loop.i = omega arith in
     sym (ap (λ k. all_below k (ok a.n a.t1)) end ∙ l.loop.invariant.1)
 
 pub all-below-spec : {M : Type 1} → statement M

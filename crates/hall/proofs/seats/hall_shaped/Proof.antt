@@ -4,15 +4,15 @@ use borrow.Author.Rules.{rules}
 use borrow.Author.Tests.{not-false, not-true}
 use lib.ListN.{length}
 use Rattle.table.proofs.Laws.{length-unmap}
-use Rattle.accord.specs.Head.{honestIn, mostGateways}
+use Rattle.accord.specs.Head.{honest_in, most_gateways}
 use Rattle.hall.proofs.Seated.{hall-high, hall-kept, hall-many, hall-none, hall-sound, hall-unkept}
 use Rattle.hall.proofs.seats.hall_shaped.Statement.{statement}
 use Rattle.hall.proofs.seats.hall_shaped.Tie as tie
 
-seats : (c : tie.Start) → length c.args.h.states ≡ mostGateways
+seats : (c : tie.Start) → length c.args.h.states ≡ most_gateways
 seats c = search length-unmap
 
-flags : (c : tie.Start) → length c.args.h.honest ≡ mostGateways
+flags : (c : tie.Start) → length c.args.h.honest ≡ most_gateways
 flags c = search rules
 
 returns : tie.Need-returns
@@ -25,14 +25,14 @@ all-below-requires : tie.Need-all-below-requires
 all-below-requires c κs = search rules
 
 returns-3 : tie.Need-returns-3
-unfolding honestIn
+unfolding honest_in
 returns-3 c = hall-unkept _ (hall-high _ (sym c.before.all-below.ensures ∙ not-true _ c.if3.true))
 
 all-sound-requires : tie.Need-all-sound-requires
 all-sound-requires c κs = search rules
 
 returns-4 : tie.Need-returns-4
-unfolding honestIn
+unfolding honest_in
 returns-4 c =
     let e = c.before in
     let b = e.before in

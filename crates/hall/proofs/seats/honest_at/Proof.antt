@@ -4,11 +4,11 @@ use mathlib.Core.Path.{◌≡◌, sym}
 use native.Mathlib.Omega.{arith}
 use borrow.Author.Rules.{rules}
 use lib.ListN.{length, get_or-eq_default}
-use Rattle.accord.specs.Head.{mostGateways}
+use Rattle.accord.specs.Head.{most_gateways}
 use Rattle.hall.proofs.seats.honest_at.Statement.{statement}
 use Rattle.hall.proofs.seats.honest_at.Tie as tie
 
-flags : (c : tie.Start) → length c.args.t1 ≡ mostGateways
+flags : (c : tie.Start) → length c.args.t1 ≡ most_gateways
 flags c = search rules
 
 returns : tie.Need-returns

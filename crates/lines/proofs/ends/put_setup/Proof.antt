@@ -4,14 +4,14 @@ use mathlib.Core.Path.{sym, subst}
 use native.Mathlib.Omega.{arith}
 use Prim.Native.Nat.{◌<◌}
 use Rattle.table.specs.declared.Answer.{Answer}
-use Rattle.pala.specs.Lines.{setupLine}
+use Rattle.pala.specs.Lines.{setup_line}
 use Rattle.lines.proofs.Laws.{digits-most, number-most, setup-line, lined-none, lined-put, put_as, put_then}
 use Rattle.lines.proofs.Records.{number-few}
 use Rattle.lines.proofs.ends.put_setup.Statement.{statement}
 use Rattle.lines.proofs.ends.put_setup.Tie as tie
 
 returns : tie.Need-returns
-returns c = lined-none setupLine c.before.before.args.text.now c.if1.true
+returns c = lined-none setup_line c.before.before.args.text.now c.if1.true
 
 slice-aggregate-put-bytes : tie.Need-slice-aggregate-put-bytes
 slice-aggregate-put-bytes c = search rules
@@ -38,7 +38,7 @@ same_length c = search rules
 
 returns-2 : tie.Need-returns-2
 returns-2 c =
-    lined-put setupLine c.before.before.before.before.before.before.before.before.before.before.if1.false
+    lined-put setup_line c.before.before.before.before.before.before.before.before.before.before.if1.false
     (put_as (setup-line c.before.before.before.before.number_of_lem.result c.before.before.before.before.number_of_lem.ensures)
     (put_then (omega (arith, number-most c.before.before.before.before.number_of_lem.result 10 (omega (arith, few c.before.before.before.before)), c.before.before.before.before.before.before.before.before.before.before.if1.false)) c.before.before.before.before.before.before.before.put-bytes.ensures c.before.before.put-number.ensures))
 

@@ -9,7 +9,7 @@ use native.Mathlib.Omega.{arith}
 use Rattle.table.proofs.Laws.{length-unmap}
 use Rattle.pala.specs.Run.{stretches}
 use Rattle.pala.proofs.Stretches.{part}
-use Rattle.lines.specs.Play.{lastNumber}
+use Rattle.lines.specs.Play.{last_number}
 use Rattle.lines.proofs.Going.{Going, going_next, going-numbered, going-length, going-room, going_end}
 use Rattle.lines.proofs.Recording.{recording, recording-start, recording-end}
 use Rattle.lines.proofs.Records.{Numbers, numbers-short, room-line, recorded}
@@ -19,7 +19,7 @@ use Rattle.lines.proofs.pieces.play_records.Tie as tie
 
 abbrev invariant-loop : tie.invariant-loop
 invariant-loop before input text₀ t₀ k₀ from₀ end₀ names₀ text t k from end names =
-    Counted t names × (before + length (stretches input) ≤ lastNumber) × Going recording t₀ before input text₀ t k from end text
+    Counted t names × (before + length (stretches input) ≤ last_number) × Going recording t₀ before input text₀ t k from end text
 
 abbrev decreases-loop : tie.decreases-loop
 decreases-loop before input text₀ t₀ k₀ from₀ end₀ names₀ text t k from end names = length input - from
@@ -42,7 +42,7 @@ stretch-requires : tie.Need-stretch-requires invariant-loop decreases-loop
 stretch-requires c κs = search rules
 
 -- there is a number for the record
-numbered : (c : tie.In-loop invariant-loop decreases-loop) → c.before.loop.k < lastNumber
+numbered : (c : tie.In-loop invariant-loop decreases-loop) → c.before.loop.k < last_number
 unfolding stretches
 numbered c = going-numbered recording c.before.loop.invariant.2 c.loop-test.true c.before.loop.invariant.1
 

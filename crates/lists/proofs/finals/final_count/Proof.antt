@@ -7,15 +7,15 @@ use lib.ListN.{length}
 use Rattle.table.specs.Rows.{capacity, rows}
 use Rattle.table.proofs.Laws.{length-unmap}
 use Rattle.pala.specs.Rules.{parent_of}
-use Rattle.pala.specs.Lists.{finalNames}
-use Rattle.pala.proofs.Finals.{finals-are, names-le, names-up-length, names-zero, namesTo}
+use Rattle.pala.specs.Lists.{final_names}
+use Rattle.pala.proofs.Finals.{finals-are, names-le, names-up-length, names-zero, names_to}
 use Rattle.pala.proofs.Places.{parent-below}
 use Rattle.lists.proofs.Readings.{next_place, row_below}
 use Rattle.lists.proofs.finals.final_count.Statement.{statement}
 use Rattle.lists.proofs.finals.final_count.Tie as tie
 
 abbrev invariant-loop : tie.invariant-loop
-invariant-loop s last n₀ p₀ n p = n + length (namesTo (rows s) p) ≡ length (finalNames s)
+invariant-loop s last n₀ p₀ n p = n + length (names_to (rows s) p) ≡ length (final_names s)
 
 abbrev decreases-loop : tie.decreases-loop
 decreases-loop s last n₀ p₀ n p = p
@@ -72,12 +72,12 @@ loop-again : tie.Need-loop-preserved invariant-loop decreases-loop
 loop-again c =
     let l = c.before.before.before in
     let t = rows l.before.args.t1 in
-    omega (arith, ap (λ (p : ℕ). length (namesTo t p)) (next c), names-up-length t l.loop.p (omega arith))
+    omega (arith, ap (λ (p : ℕ). length (names_to t p)) (next c), names-up-length t l.loop.p (omega arith))
 
 returns : tie.Need-returns invariant-loop decreases-loop
 returns c =
     let t = rows c.before.before.args.t1 in
-    omega (arith, ap (λ (p : ℕ). length (namesTo t p)) (none_left c), ap length (names-zero t))
+    omega (arith, ap (λ (p : ℕ). length (names_to t p)) (none_left c), ap length (names-zero t))
 
 pub final-count-spec : {M : Type 1} → statement M
 final-count-spec =

@@ -5,18 +5,18 @@ use native.Mathlib.Omega.{arith}
 use borrow.Author.Rules.{rules}
 use lib.ListN.{length, length-set}
 use lib.Seq.{paste, paste-zero}
-use Rattle.table.specs.Rows.{nameBytes}
+use Rattle.table.specs.Rows.{name_bytes}
 use Rattle.lists.proofs.Readings.{put_step, put_whole}
 use Rattle.lists.proofs.finals.put_name.Statement.{statement}
 use Rattle.lists.proofs.finals.put_name.Tie as tie
 
 abbrev invariant-loop : tie.invariant-loop
-invariant-loop list₀ at name k₀ list k = (k ≤ nameBytes) × (length list ≡ length list₀) × (list ≡ paste list₀ at name k)
+invariant-loop list₀ at name k₀ list k = (k ≤ name_bytes) × (length list ≡ length list₀) × (list ≡ paste list₀ at name k)
 
 abbrev decreases-loop : tie.decreases-loop
-decreases-loop list₀ at name k₀ list k = nameBytes - k
+decreases-loop list₀ at name k₀ list k = name_bytes - k
 
-named : (c : tie.Start invariant-loop decreases-loop) → length c.args.t3 ≡ nameBytes
+named : (c : tie.Start invariant-loop decreases-loop) → length c.args.t3 ≡ name_bytes
 named c = search rules
 
 loop-holds : tie.Need-loop-init invariant-loop decreases-loop

@@ -4,17 +4,17 @@ use mathlib.Core.Path.{◌≡◌, ◌∙◌, refl}
 use native.Mathlib.Omega.{arith}
 use borrow.Author.Rules.{rules}
 use lib.ListN.{length}
-use Rattle.table.specs.Rows.{capacity, nameBytes, rows}
+use Rattle.table.specs.Rows.{capacity, name_bytes, rows}
 use Rattle.table.proofs.Laws.{length-unmap}
 use Rattle.pala.specs.Rules.{parent_of}
-use Rattle.pala.specs.Lists.{finalNames}
+use Rattle.pala.specs.Lists.{final_names}
 use Rattle.pala.proofs.Places.{parent-below}
 use Rattle.lists.proofs.Readings.{Written, next_place, place-name, row_below, written_all, written_next, written_none, written-room, written_step}
 use Rattle.lists.proofs.finals.write_names.Statement.{statement}
 use Rattle.lists.proofs.finals.write_names.Tie as tie
 
 abbrev invariant-loop : tie.invariant-loop
-invariant-loop list₀ count s last at₀ p₀ list at p = (length list ≡ length list₀) × Written (rows s) (finalNames s) list₀ p at list
+invariant-loop list₀ count s last at₀ p₀ list at p = (length list ≡ length list₀) × Written (rows s) (final_names s) list₀ p at list
 
 abbrev decreases-loop : tie.decreases-loop
 decreases-loop list₀ count s last at₀ p₀ list at p = p
@@ -23,12 +23,12 @@ module _ (c : tie.Start invariant-loop decreases-loop) where
   held : length c.args.t1.blocks ≡ suc capacity
   held = search length-unmap
 
-  room : nameBytes * length (finalNames c.args.t1) ≤ length c.args.list.now
+  room : name_bytes * length (final_names c.args.t1) ≤ length c.args.list.now
   room = omega arith
 
 -- where a turn begins
 module _ (c : tie.In-loop invariant-loop decreases-loop) where
-  next-name : nameBytes ≤ c.before.loop.at
+  next-name : name_bytes ≤ c.before.loop.at
   next-name =
       let l = c.before in
       written_next _ _ _ _ _ _ l.loop.invariant.1 (room l.before.before) c.loop-test.true
@@ -90,9 +90,9 @@ loop-again c =
     let r = n.before.before.before.before in
     let l = r.before.before in
     let s = l.before.before.args.t1 in
-    let back : l.loop.at - nameBytes + nameBytes ≡ l.loop.at = omega (arith, next-name r.before) in
+    let back : l.loop.at - name_bytes + name_bytes ≡ l.loop.at = omega (arith, next-name r.before) in
     let named = place-name s _ l.loop.p (held l.before.before) _ r.row_of.ensures in
-    (n.put-name.auto.0 ∙ l.loop.invariant.0, written_step _ _ _ _ _ _ l.loop.invariant.1 (room l.before.before) r.before.loop-test.true _ (l.loop.at - nameBytes) _ _ (next c) back named n.put-name.ensures)
+    (n.put-name.auto.0 ∙ l.loop.invariant.0, written_step _ _ _ _ _ _ l.loop.invariant.1 (room l.before.before) r.before.loop-test.true _ (l.loop.at - name_bytes) _ _ (next c) back named n.put-name.ensures)
 
 same_length : tie.Need-same-length invariant-loop decreases-loop
 same_length c = c.before.loop.invariant.0

@@ -7,13 +7,13 @@ use borrow.Author.Count.{below_more}
 use borrow.Author.Rules.{rules}
 use borrow.Author.Tests.{not-true, not-false}
 use Rattle.table.specs.Bytes.{same}
-use Rattle.table.specs.Rows.{nameBytes}
-use Rattle.lists.proofs.Sides.{agreeing-all, agreeing-is, nameFrom}
+use Rattle.table.specs.Rows.{name_bytes}
+use Rattle.lists.proofs.Sides.{agreeing-all, agreeing-is, name_from}
 use Rattle.lists.proofs.relations.agreeing.Statement.{statement}
 use Rattle.lists.proofs.relations.agreeing.Tie as tie
 
 abbrev invariant-loop : tie.invariant-loop
-invariant-loop a b end k₀ k = (k ≤ end) × ((i : ℕ) → i < k → same (nameFrom a (nameBytes * i)) (nameFrom b (nameBytes * i)) ≡ true)
+invariant-loop a b end k₀ k = (k ≤ end) × ((i : ℕ) → i < k → same (name_from a (name_bytes * i)) (name_from b (name_bytes * i)) ≡ true)
 
 abbrev decreases-loop : tie.decreases-loop
 decreases-loop a b end k₀ k = end - k

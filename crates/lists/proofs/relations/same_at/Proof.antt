@@ -4,16 +4,16 @@ use mathlib.Core.Path.{◌≡◌, sym}
 use native.Mathlib.Omega.{arith}
 use borrow.Author.Count.{below_more}
 use lib.ListN.{get_or}
-use Rattle.table.specs.Rows.{nameBytes}
+use Rattle.table.specs.Rows.{name_bytes}
 use Rattle.lists.proofs.Sides.{names-differ, names_same}
 use Rattle.lists.proofs.relations.same_at.Statement.{statement}
 use Rattle.lists.proofs.relations.same_at.Tie as tie
 
 abbrev invariant-loop : tie.invariant-loop
-invariant-loop a b from k₀ k = (k ≤ nameBytes) × ((i : ℕ) → i < k → get_or a (from + i) 0 ≡ get_or b (from + i) 0)
+invariant-loop a b from k₀ k = (k ≤ name_bytes) × ((i : ℕ) → i < k → get_or a (from + i) 0 ≡ get_or b (from + i) 0)
 
 abbrev decreases-loop : tie.decreases-loop
-decreases-loop a b from k₀ k = nameBytes - k
+decreases-loop a b from k₀ k = name_bytes - k
 
 loop-holds : tie.Need-loop-init invariant-loop decreases-loop
 loop-holds c = (omega arith, λ i l. absurd (omega arith))

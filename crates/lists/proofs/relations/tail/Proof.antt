@@ -2,8 +2,8 @@
 use mathlib.Core.Path.{◌∙◌, refl, sym}
 use native.Mathlib.Omega.{arith}
 use borrow.Author.Rules.{rules}
-use Rattle.pala.specs.Lists.{tailOf}
-use Rattle.lists.specs.Tails.{tailStart}
+use Rattle.pala.specs.Lists.{tail_of}
+use Rattle.lists.specs.Tails.{tail_start}
 use Rattle.lists.proofs.Sides.{empty-tail, first-longer, first_tail, second-longer, second-tail}
 use Rattle.lists.proofs.relations.tail.Statement.{statement}
 use Rattle.lists.proofs.relations.tail.Tie as tie
@@ -80,7 +80,7 @@ part-result-end-5 : tie.Need-slice-bounds-result-end-5
 part-result-end-5 c = search rules
 
 returns : tie.Need-returns
-unfolding tailOf tailStart
+unfolding tail_of tail_start
 returns c = empty-tail _ _ _ _ _ c.before.before.before.relation.ensures _ refl refl c.before.enum_told.given.1
 
 returns-2 : tie.Need-returns-2
@@ -90,11 +90,11 @@ returns-3 : tie.Need-returns-3
 returns-3 c = second-tail _ _ _ _ _ c.before.before.before.relation.ensures c.before.enum-told3.given.1
 
 returns-4 : tie.Need-returns-4
-unfolding tailOf tailStart
+unfolding tail_of tail_start
 returns-4 c = empty-tail _ _ _ _ _ c.before.before.before.relation.ensures _ refl refl c.before.enum-told4.given.1
 
 returns-5 : tie.Need-returns-5
-unfolding tailOf tailStart
+unfolding tail_of tail_start
 returns-5 c = empty-tail _ _ _ _ _ c.before.before.before.relation.ensures _ refl refl c.before.enum-told5.given.1
 
 pub tail-spec : {M : Type 1} → statement M

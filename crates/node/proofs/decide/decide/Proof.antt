@@ -10,13 +10,13 @@ use Rattle.pala.specs.Answers.{taken}
 use Rattle.node.specs.Moves.{judged}
 use Rattle.node.proofs.Ways.{Past}
 use Rattle.node.proofs.Ways.Through.{refuses, passes, rests}
-use Rattle.node.proofs.ByKind.{firstRows, first-decided}
+use Rattle.node.proofs.ByKind.{first_rows, first-decided}
 use Rattle.node.proofs.decide.decide.Statement.{statement}
 use Rattle.node.proofs.decide.decide.Tie as tie
 
 -- the first rows passed, whatever rows come after
 abbrev To : tie.Start → ℕ → Type 0
-To c k = (more : List (Bool × Answer)) (p : ℕ) → Past (firstRows c.args.s c.args.f more) p k
+To c k = (more : List (Bool × Answer)) (p : ℕ) → Past (first_rows c.args.s c.args.f more) p k
 
 past-1 : (c : tie.Else1) → To c.before 1
 past-1 c more p m way = passes (ap not (le-leb _ _ c.if1.false)) way

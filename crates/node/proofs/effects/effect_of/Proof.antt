@@ -7,7 +7,7 @@ use borrow.Author.Rules.{rules}
 use lib.ListN.{length}
 use Rattle.table.specs.Rows.{capacity}
 use Rattle.table.proofs.Laws.{length-unmap}
-use Rattle.pala.specs.Record.{minuteUp}
+use Rattle.pala.specs.Record.{minute_up}
 use Rattle.pala.proofs.Shapes.{shaped-count}
 use Rattle.node.specs.Moves.{Granted}
 use Rattle.node.proofs.Grants.{last-kind, room-left, minute-left, own_below, sender-below, vote-held, cast-held, proposal-done, vote-done, clock-done, propose-done, cast-done, minute-done}
@@ -72,7 +72,7 @@ returns-5 c r g = does-as c.vote-added2.ensures (cast-done g c.before.if5.true)
 sixth :
     (c : tie.Else5) {r : List ℕ} →
     Granted c.before.before.before.before.before.before.before.args.s c.before.before.before.before.before.before.before.args.f c.before.before.before.before.before.before.before.args.place r →
-    c.before.before.before.before.before.before.before.args.f.kind ≡ minuteUp
+    c.before.before.before.before.before.before.before.args.f.kind ≡ minute_up
 sixth c g =
     last-kind g c.before.before.before.before.if1.false c.before.before.before.if2.false c.before.before.if3.false c.before.if4.false c.if5.false
 

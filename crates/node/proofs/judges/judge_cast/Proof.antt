@@ -15,7 +15,7 @@ use Rattle.node.specs.declared.Move.{Move}
 use Rattle.node.specs.Moves.{judged}
 use Rattle.node.proofs.Ways.{Through, Past}
 use Rattle.node.proofs.Ways.Through.{refuses, passes, takes}
-use Rattle.node.proofs.ByKind.{castRows, cast-judged}
+use Rattle.node.proofs.ByKind.{cast_rows, cast-judged}
 use Rattle.node.proofs.Facts.{past-yes, past-no, number, sized}
 use Rattle.node.proofs.judges.judge_cast.Statement.{statement}
 use Rattle.node.proofs.judges.judge_cast.Tie as tie
@@ -24,10 +24,10 @@ held : (c : tie.Start) → length c.args.s.blocks ≡ suc capacity
 held c = search length-unmap
 
 abbrev To : tie.Start → ℕ → Type 0
-To c k = Past (castRows c.args.s c.args.f) (picked c.args.s) k
+To c k = Past (cast_rows c.args.s c.args.f) (picked c.args.s) k
 
 -- a way through the rows is what they give of the record
-given : (c : tie.Start) (m : Move) → Through (castRows c.args.s c.args.f) (picked c.args.s) m → (r : List ℕ) → c.args.f ≡ fields_of r → m ≡ judged c.args.s r
+given : (c : tie.Start) (m : Move) → Through (cast_rows c.args.s c.args.f) (picked c.args.s) m → (r : List ℕ) → c.args.f ≡ fields_of r → m ≡ judged c.args.s r
 given c m = cast-judged c.args.s c.args.f m (sized c.args.s c.requires.0 (held c)) c.requires.1
 
 abbrev from-1 : tie.Else1 → tie.Start

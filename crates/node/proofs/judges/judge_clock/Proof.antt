@@ -13,7 +13,7 @@ use Rattle.node.specs.declared.Move.{Move}
 use Rattle.node.specs.Moves.{judged}
 use Rattle.node.proofs.Ways.{Through, Past}
 use Rattle.node.proofs.Ways.Through.{refuses, passes, takes}
-use Rattle.node.proofs.ByKind.{clockRows, clock-judged}
+use Rattle.node.proofs.ByKind.{clock_rows, clock-judged}
 use Rattle.node.proofs.Facts.{least-yes, least-no, kept-clock, sized}
 use Rattle.node.proofs.judges.judge_clock.Statement.{statement}
 use Rattle.node.proofs.judges.judge_clock.Tie as tie
@@ -22,10 +22,10 @@ held : (c : tie.Start) → length c.args.s.blocks ≡ suc capacity
 held c = search length-unmap
 
 abbrev To : tie.Start → ℕ → Type 0
-To c k = Past (clockRows c.args.s c.args.f) (0) k
+To c k = Past (clock_rows c.args.s c.args.f) (0) k
 
 -- a way through the rows is what they give of the record
-given : (c : tie.Start) (m : Move) → Through (clockRows c.args.s c.args.f) (0) m → (r : List ℕ) → c.args.f ≡ fields_of r → m ≡ judged c.args.s r
+given : (c : tie.Start) (m : Move) → Through (clock_rows c.args.s c.args.f) (0) m → (r : List ℕ) → c.args.f ≡ fields_of r → m ≡ judged c.args.s r
 given c m = clock-judged c.args.s c.args.f m (sized c.args.s c.requires.0 (held c)) c.requires.1
 
 abbrev from-1 : tie.Else1 → tie.Start

@@ -19,7 +19,7 @@ use Rattle.node.specs.declared.Move.{Move}
 use Rattle.node.specs.Moves.{judged}
 use Rattle.node.proofs.Ways.{Through, Past}
 use Rattle.node.proofs.Ways.Through.{refuses, passes, takes}
-use Rattle.node.proofs.ByKind.{proposalRows, proposal-judged}
+use Rattle.node.proofs.ByKind.{proposal_rows, proposal-judged}
 use Rattle.node.proofs.Facts.{le_yes, le-no, least-yes, least-no, past-yes, past-no, not-is-yes, not-is-no, found-place, epoch-found, sized}
 use Rattle.node.proofs.judges.judge_proposal.Statement.{statement}
 use Rattle.node.proofs.judges.judge_proposal.Tie as tie
@@ -28,10 +28,10 @@ held : (c : tie.Start) → length c.args.s.blocks ≡ suc capacity
 held c = search length-unmap
 
 abbrev To : tie.Start → ℕ → Type 0
-To c k = Past (proposalRows c.args.s c.args.f) (find (rows c.args.s) c.args.f.parent) k
+To c k = Past (proposal_rows c.args.s c.args.f) (find (rows c.args.s) c.args.f.parent) k
 
 -- a way through the rows is what they give of the record
-given : (c : tie.Start) (m : Move) → Through (proposalRows c.args.s c.args.f) (find (rows c.args.s) c.args.f.parent) m → (r : List ℕ) → c.args.f ≡ fields_of r → m ≡ judged c.args.s r
+given : (c : tie.Start) (m : Move) → Through (proposal_rows c.args.s c.args.f) (find (rows c.args.s) c.args.f.parent) m → (r : List ℕ) → c.args.f ≡ fields_of r → m ≡ judged c.args.s r
 given c m = proposal-judged c.args.s c.args.f m (sized c.args.s c.requires.0 (held c)) c.requires.1
 
 abbrev from-1 : tie.Else1 → tie.Start

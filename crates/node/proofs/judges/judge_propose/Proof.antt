@@ -20,7 +20,7 @@ use Rattle.node.specs.declared.Move.{Move}
 use Rattle.node.specs.Moves.{judged}
 use Rattle.node.proofs.Ways.{Through, Past}
 use Rattle.node.proofs.Ways.Through.{refuses, passes, takes}
-use Rattle.node.proofs.ByKind.{proposeRows, propose-judged}
+use Rattle.node.proofs.ByKind.{propose_rows, propose-judged}
 use Rattle.node.proofs.Facts.{le_yes, le-no, least-yes, least-no, not-is-yes, not-is-no, found-place, top-epoch, sized}
 use Rattle.node.proofs.judges.judge_propose.Statement.{statement}
 use Rattle.node.proofs.judges.judge_propose.Tie as tie
@@ -29,10 +29,10 @@ held : (c : tie.Start) → length c.args.s.blocks ≡ suc capacity
 held c = search length-unmap
 
 abbrev To : tie.Start → ℕ → Type 0
-To c k = Past (proposeRows c.args.s c.args.f) (freshest c.args.s.n (rows c.args.s)) k
+To c k = Past (propose_rows c.args.s c.args.f) (freshest c.args.s.n (rows c.args.s)) k
 
 -- a way through the rows is what they give of the record
-given : (c : tie.Start) (m : Move) → Through (proposeRows c.args.s c.args.f) (freshest c.args.s.n (rows c.args.s)) m → (r : List ℕ) → c.args.f ≡ fields_of r → m ≡ judged c.args.s r
+given : (c : tie.Start) (m : Move) → Through (propose_rows c.args.s c.args.f) (freshest c.args.s.n (rows c.args.s)) m → (r : List ℕ) → c.args.f ≡ fields_of r → m ≡ judged c.args.s r
 given c m = propose-judged c.args.s c.args.f m (sized c.args.s c.requires.0 (held c)) c.requires.1
 
 abbrev from-1 : tie.Else1 → tie.Start

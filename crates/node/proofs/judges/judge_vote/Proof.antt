@@ -14,7 +14,7 @@ use Rattle.node.specs.declared.Move.{Move}
 use Rattle.node.specs.Moves.{judged}
 use Rattle.node.proofs.Ways.{Through, Past}
 use Rattle.node.proofs.Ways.Through.{refuses, passes, takes}
-use Rattle.node.proofs.ByKind.{voteRows, vote-judged}
+use Rattle.node.proofs.ByKind.{vote_rows, vote-judged}
 use Rattle.node.proofs.Facts.{past-yes, past-no, is-yes, is-no, found-place, voter-found, sized}
 use Rattle.node.proofs.judges.judge_vote.Statement.{statement}
 use Rattle.node.proofs.judges.judge_vote.Tie as tie
@@ -23,10 +23,10 @@ held : (c : tie.Start) → length c.args.s.blocks ≡ suc capacity
 held c = search length-unmap
 
 abbrev To : tie.Start → ℕ → Type 0
-To c k = Past (voteRows c.args.s c.args.f) (find (rows c.args.s) c.args.f.name) k
+To c k = Past (vote_rows c.args.s c.args.f) (find (rows c.args.s) c.args.f.name) k
 
 -- a way through the rows is what they give of the record
-given : (c : tie.Start) (m : Move) → Through (voteRows c.args.s c.args.f) (find (rows c.args.s) c.args.f.name) m → (r : List ℕ) → c.args.f ≡ fields_of r → m ≡ judged c.args.s r
+given : (c : tie.Start) (m : Move) → Through (vote_rows c.args.s c.args.f) (find (rows c.args.s) c.args.f.name) m → (r : List ℕ) → c.args.f ≡ fields_of r → m ≡ judged c.args.s r
 given c m = vote-judged c.args.s c.args.f m (sized c.args.s c.requires.0 (held c)) c.requires.1
 
 abbrev from-1 : tie.Else1 → tie.Start

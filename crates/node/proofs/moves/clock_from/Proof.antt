@@ -2,7 +2,7 @@
 use Prim.Native.Nat.{ℕ}
 use mathlib.Core.Path.{refl, sym, ap}
 use borrow.Author.Rules.{rules}
-use Rattle.pala.specs.Counts.{clockOf}
+use Rattle.pala.specs.Counts.{clock_of}
 use Rattle.rules.proofs.Agreed.{clock-past}
 use Rattle.node.proofs.moves.clock_from.Statement.{statement}
 use Rattle.node.proofs.moves.clock_from.Tie as tie
@@ -20,7 +20,7 @@ array-copy-out-result : tie.Need-array-copy-out-result
 array-copy-out-result c = search rules
 
 returns-2 : tie.Need-returns-2
-unfolding clockOf
+unfolding clock_of
 returns-2 c = refl
 
 pub clock-from-spec : {M : Type 1} → statement M

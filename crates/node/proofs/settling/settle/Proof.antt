@@ -7,7 +7,7 @@ use lib.ListN.{length}
 use Rattle.table.specs.Rows.{capacity}
 use Rattle.table.proofs.Laws.{length-unmap, row_low}
 use Rattle.pala.specs.Effects.{put}
-use Rattle.pala.specs.Steps.{freshEpoch, settled}
+use Rattle.pala.specs.Steps.{fresh_epoch, settled}
 use Rattle.pala.proofs.Shapes.{shaped-count}
 use Rattle.rules.specs.declared.Standing.{Standing}
 use Rattle.rules.proofs.Shown.{standing}
@@ -72,7 +72,7 @@ add-rose c =
     let d = e.effect_of.ensures _ g in
     let stood : z.standing.result ≡ standing (done s.args.s e.effect_of.result) =
     stands (done s.args.s e.effect_of.result) (done-rows s.args.s e.effect_of.result (held s)) _ k.columns_of.ensures _ z.standing.ensures in
-    let fresh : z.standing.result.fresh.0 ≡ freshEpoch (done s.args.s e.effect_of.result) = ap (λ (x : Standing). x.fresh.0) stood in
+    let fresh : z.standing.result.fresh.0 ≡ fresh_epoch (done s.args.s e.effect_of.result) = ap (λ (x : Standing). x.fresh.0) stood in
     omega (arith, granted-fresh (held s) s.requires.0 g d.makes)
 
 later-requires : tie.Need-later-requires

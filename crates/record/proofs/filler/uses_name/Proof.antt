@@ -1,11 +1,11 @@
 -- The table's "fields used", read at a kind. Assumes nothing.
 use mathlib.Core.Path.{refl}
-use Rattle.pala.specs.Record.{usesName}
+use Rattle.pala.specs.Record.{uses_name}
 use Rattle.record.proofs.filler.uses_name.Statement.{statement}
 use Rattle.record.proofs.filler.uses_name.Tie as tie
 
 returns : tie.Need-returns
-unfolding usesName
+unfolding uses_name
 returns c = refl
 
 pub uses-name-spec : {M : Type 1} → statement M

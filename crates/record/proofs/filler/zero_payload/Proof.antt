@@ -8,16 +8,16 @@ use lib.Dec.{eqb}
 use lib.ListN.{length, get_or, take}
 use lib.Seq.{take_all}
 use Rattle.table.specs.Bytes.{zeros}
-use Rattle.table.specs.Rows.{payloadBytes}
+use Rattle.table.specs.Rows.{payload_bytes}
 use Rattle.record.proofs.Laws.{zeros-more}
 use Rattle.record.proofs.filler.zero_payload.Statement.{statement}
 use Rattle.record.proofs.filler.zero_payload.Tie as tie
 
 abbrev invariant-loop : tie.invariant-loop
-invariant-loop payload clean₀ k₀ clean k = (k ≤ payloadBytes) × (clean ≡ zeros (take k payload))
+invariant-loop payload clean₀ k₀ clean k = (k ≤ payload_bytes) × (clean ≡ zeros (take k payload))
 
 abbrev decreases-loop : tie.decreases-loop
-decreases-loop payload clean₀ k₀ clean k = payloadBytes - k
+decreases-loop payload clean₀ k₀ clean k = payload_bytes - k
 
 loop-holds : tie.Need-loop-init invariant-loop decreases-loop
 unfolding zeros
@@ -46,7 +46,7 @@ loop-again c =
 returns : tie.Need-returns invariant-loop decreases-loop
 returns c =
     let payload = c.before.before.args.t1 in
-    let size : length payload ≡ payloadBytes = search rules in
+    let size : length payload ≡ payload_bytes = search rules in
     c.before.loop.invariant.1 ∙ ap zeros (take_all c.before.loop.k payload (omega arith))
 
 pub zero-payload-spec : {M : Type 1} → statement M

@@ -4,7 +4,7 @@ use mathlib.Core.Path.{refl}
 use native.Mathlib.Omega.{arith}
 use borrow.Author.Rules.{rules}
 use lib.ListN.{replicate}
-use Rattle.table.specs.Rows.{nameBytes}
+use Rattle.table.specs.Rows.{name_bytes}
 use Rattle.record.proofs.Laws.{part-copied}
 use Rattle.record.proofs.reading.name_from.Statement.{statement}
 use Rattle.record.proofs.reading.name_from.Tie as tie
@@ -33,7 +33,7 @@ put-requires c κs = search rules
 returns : tie.Need-returns
 returns c =
     let start = c.before.before.before.before.before in
-    part-copied (replicate nameBytes 0) start.args.rec.now c.before.put.new.0 start.args.from nameBytes (start.args.from + nameBytes - start.args.from) refl (omega arith) (omega arith) c.before.put.ensures
+    part-copied (replicate name_bytes 0) start.args.rec.now c.before.put.new.0 start.args.from name_bytes (start.args.from + name_bytes - start.args.from) refl (omega arith) (omega arith) c.before.put.ensures
 
 pub name-from-spec : {M : Type 1} → statement M
 name-from-spec =

@@ -3,8 +3,8 @@ use mathlib.Core.Path.{refl}
 use native.Mathlib.Omega.{arith}
 use borrow.Author.Rules.{rules}
 use lib.ListN.{replicate}
-use Rattle.table.specs.Rows.{payloadBytes}
-use Rattle.pala.specs.Record.{payloadOf}
+use Rattle.table.specs.Rows.{payload_bytes}
+use Rattle.pala.specs.Record.{payload_of}
 use Rattle.record.proofs.Laws.{part-copied}
 use Rattle.record.proofs.reading.payload_from.Statement.{statement}
 use Rattle.record.proofs.reading.payload_from.Tie as tie
@@ -31,10 +31,10 @@ put-requires : tie.Need-put-requires
 put-requires c κs = search rules
 
 returns : tie.Need-returns
-unfolding payloadOf
+unfolding payload_of
 returns c =
     let start = c.before.before.before.before.before in
-    part-copied (replicate payloadBytes 0) start.args.rec.now c.before.put.new.0 (72) payloadBytes payloadBytes refl (omega arith) (omega arith) c.before.put.ensures
+    part-copied (replicate payload_bytes 0) start.args.rec.now c.before.put.new.0 (72) payload_bytes payload_bytes refl (omega arith) (omega arith) c.before.put.ensures
 
 pub payload-from-spec : {M : Type 1} → statement M
 payload-from-spec =

@@ -6,7 +6,7 @@ use borrow.Author.Rules.{rules}
 use borrow.Fn.Kinds.{In}
 use borrow.Fn.PlainCycle.{Measures, is, falls, and}
 use Rattle.table.specs.declared.Place.{Place}
-use Rattle.rules.specs.Columns.{firmBy, markAt, number_at}
+use Rattle.rules.specs.Columns.{firm_by, mark_at, number_at}
 use Rattle.rules.proofs.Downward.{next-below, firm-down, firm-not, firm-zero}
 use Rattle.rules.proofs.chains.firm.Reads as firm
 use Rattle.rules.proofs.chains.firm.Kinds as firm-kinds
@@ -91,7 +91,7 @@ firm-returns-3 t c =
     let m = c.before.before.before in
     let a = m.before.before.before.args in
     c.firm.ensures
-    ∙ ap (λ (q : Place). firmBy (number_at a.parents.now) (markAt a.marks.now) q.0) c.before.lower-at.ensures
+    ∙ ap (λ (q : Place). firm_by (number_at a.parents.now) (mark_at a.marks.now) q.0) c.before.lower-at.ensures
     ∙ sym
     (firm-down _ _ _ m.before.if1.false (sym m.mark-at.ensures ∙ not-false _ c.before.before.if2.false))
 

@@ -5,7 +5,7 @@ use borrow.Author.Rules.{rules}
 use lib.Dec.{eqb}
 use Rattle.table.specs.declared.Epoch.{Epoch}
 use Rattle.table.specs.declared.Place.{Place}
-use Rattle.rules.specs.Columns.{normalBy, number_at}
+use Rattle.rules.specs.Columns.{normal_by, number_at}
 use Rattle.rules.proofs.chains.normal.Statement.{statement}
 use Rattle.rules.proofs.chains.normal.Tie as tie
 
@@ -22,7 +22,7 @@ is-next-requires : tie.Need-is-next-requires
 is-next-requires c κs = search rules
 
 returns : tie.Need-returns
-unfolding normalBy
+unfolding normal_by
 returns c =
     let l = c.before.before.before in
     let a = l.before.args in

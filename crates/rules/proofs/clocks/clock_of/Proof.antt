@@ -6,11 +6,11 @@ use native.Mathlib.Omega.{arith}
 use borrow.Author.Rules.{rules}
 use borrow.Author.Tests.{not-true}
 use lib.ListN.{length}
-use Rattle.table.specs.Rows.{mostNodes}
+use Rattle.table.specs.Rows.{most_nodes}
 use Rattle.table.specs.Scan.{greatest}
 use Rattle.table.specs.declared.Epoch.{Epoch}
 use Rattle.table.proofs.Laws.{greatest-step}
-use Rattle.pala.specs.Counts.{clockOf}
+use Rattle.pala.specs.Counts.{clock_of}
 use Rattle.pala.specs.Rules.{shared}
 use Rattle.pala.proofs.Clocks.{unshared-above}
 use Rattle.rules.proofs.Agreed.{agreed-held, best_of}
@@ -20,12 +20,12 @@ use Rattle.rules.proofs.clocks.clock_of.Tie as tie
 abbrev invariant-loop : tie.invariant-loop
 invariant-loop n clocks end best₀ k₀ best k =
     (k ≤ end)
-    × (best.0 ≡ max best₀.0 (greatest k (λ i. shared n clocks (clockOf clocks i)) (clockOf clocks)))
+    × (best.0 ≡ max best₀.0 (greatest k (λ i. shared n clocks (clock_of clocks i)) (clock_of clocks)))
 
 abbrev decreases-loop : tie.decreases-loop
 decreases-loop n clocks end best₀ k₀ best k = end - k
 
-held : (c : tie.Start invariant-loop decreases-loop) → length c.args.t1 ≡ mostNodes
+held : (c : tie.Start invariant-loop decreases-loop) → length c.args.t1 ≡ most_nodes
 held c = search
 
 shared-past-requires : tie.Need-shared-past-requires invariant-loop decreases-loop
@@ -63,13 +63,13 @@ loop-less : tie.Need-loop-smaller invariant-loop decreases-loop
 loop-less c = omega arith
 
 loop-again : tie.Need-loop-preserved invariant-loop decreases-loop
-unfolding clockOf
+unfolding clock_of
 loop-again c =
     let l = c.before.before.before in
     let a = l.before.before.before.before.args in
-    let ok : ℕ → Bool = λ i. shared a.n a.t1 (clockOf a.t1 i) in (
+    let ok : ℕ → Bool = λ i. shared a.n a.t1 (clock_of a.t1 i) in (
       omega arith,
-      best_of _ _ _ _ _ _ l.loop.invariant.1 (ap (λ (e : Epoch). e.0) c.better.ensures) (greatest-step l.loop.k ok (clockOf a.t1)),
+      best_of _ _ _ _ _ _ l.loop.invariant.1 (ap (λ (e : Epoch). e.0) c.better.ensures) (greatest-step l.loop.k ok (clock_of a.t1)),
     )
 
 returns-2 : tie.Need-returns-2 invariant-loop decreases-loop
@@ -79,7 +79,7 @@ returns-2 c =
     let a = s.args in
     ap (λ (e : ℕ). record { 0 = e })
     (l.loop.invariant.1
-    ∙ ap (λ (k : ℕ). max a.local.0 (greatest k (λ i. shared a.n a.t1 (clockOf a.t1 i)) (clockOf a.t1))) (omega arith ∙ l.before.clocks-held.ensures)
+    ∙ ap (λ (k : ℕ). max a.local.0 (greatest k (λ i. shared a.n a.t1 (clock_of a.t1 i)) (clock_of a.t1))) (omega arith ∙ l.before.clocks-held.ensures)
     ∙ ap (max a.local.0) (agreed-held a.t1 (held s) a.n))
 
 pub clock-of-spec : {M : Type 1} → statement M

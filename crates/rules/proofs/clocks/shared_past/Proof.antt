@@ -7,14 +7,14 @@ use borrow.Author.Rules.{rules}
 use lib.ListN.{length}
 use lib.Dec.{leb}
 use Rattle.table.specs.Scan.{count}
-use Rattle.table.specs.Rows.{mostNodes}
+use Rattle.table.specs.Rows.{most_nodes}
 use Rattle.pala.specs.Counts.{quorum}
 use Rattle.pala.specs.Rules.{reached}
 use Rattle.rules.proofs.Agreed.{shared-held}
 use Rattle.rules.proofs.clocks.shared_past.Statement.{statement}
 use Rattle.rules.proofs.clocks.shared_past.Tie as tie
 
-held : (c : tie.Start) → length c.args.clocks ≡ mostNodes
+held : (c : tie.Start) → length c.args.clocks ≡ most_nodes
 held c = search
 
 clocks-held-requires : tie.Need-clocks-held-requires

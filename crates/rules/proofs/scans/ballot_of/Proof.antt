@@ -6,7 +6,7 @@ use native.Mathlib.Omega.{arith}
 use borrow.Author.Rules.{rules}
 use borrow.Author.Count.{below_more}
 use Rattle.table.proofs.Laws.{lowest-is, lowest-none}
-use Rattle.rules.specs.Columns.{markAt, number_at, openBy}
+use Rattle.rules.specs.Columns.{mark_at, number_at, open_by}
 use Rattle.rules.proofs.Searches.{votable-not, votable-open, votable-voted}
 use Rattle.rules.proofs.scans.ballot_of.Statement.{statement}
 use Rattle.rules.proofs.scans.ballot_of.Tie as tie
@@ -14,7 +14,7 @@ use Rattle.rules.proofs.scans.ballot_of.Tie as tie
 abbrev invariant-loop : tie.invariant-loop
 invariant-loop parents epochs marks size local bar k₀ k =
     (0 < k)
-    × ((i : ℕ) → i < k → 0 < i → openBy (number_at parents) (number_at epochs) (markAt marks) local.0 bar.0 i ≡ false)
+    × ((i : ℕ) → i < k → 0 < i → open_by (number_at parents) (number_at epochs) (mark_at marks) local.0 bar.0 i ≡ false)
 
 abbrev decreases-loop : tie.decreases-loop
 decreases-loop parents epochs marks size local bar k₀ k = size - k

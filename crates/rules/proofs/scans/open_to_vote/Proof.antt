@@ -5,7 +5,7 @@ use borrow.Author.Rules.{rules}
 use Rattle.table.specs.declared.Epoch.{Epoch}
 use Rattle.table.specs.declared.Place.{Place}
 use Rattle.pala.specs.Rules.{lower}
-use Rattle.rules.specs.Columns.{firmBy, markAt, number_at}
+use Rattle.rules.specs.Columns.{firm_by, mark_at, number_at}
 use Rattle.rules.proofs.Searches.{open-barred, open-firm, open-other}
 use Rattle.rules.proofs.scans.open_to_vote.Statement.{statement}
 use Rattle.rules.proofs.scans.open_to_vote.Tie as tie
@@ -55,7 +55,7 @@ returns-3 c =
     let i = l.before in
     let a = i.before.before.before.before.args in
     c.firm.ensures
-    ∙ ap (λ (q : Place). firmBy (number_at a.parents.now) (markAt a.marks.now) q.0) l.lower-at.ensures
+    ∙ ap (λ (q : Place). firm_by (number_at a.parents.now) (mark_at a.marks.now) q.0) l.lower-at.ensures
     ∙ sym
     (open-firm _ _ _ a.local.0 a.bar.0 a.p.0 (sym (epoch-is i.before.before.before) ∙ i.if1.false)
     (subst (λ (e : ℕ). a.bar.0 ≤ e) (parent_is c.before.before.before.before) c.before.if2.false))

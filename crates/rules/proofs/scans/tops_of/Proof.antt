@@ -9,14 +9,14 @@ use lib.Dec.{leb}
 use Rattle.table.specs.declared.Epoch.{Epoch}
 use Rattle.table.proofs.Laws.{not-both}
 use Rattle.pala.proofs.Tests.{nor-l, nor-r}
-use Rattle.rules.specs.Columns.{markAt, number_at, places}
+use Rattle.rules.specs.Columns.{mark_at, number_at, places}
 use Rattle.rules.proofs.Tops.{Scanned, scanned-start, scanned-passed, scanned-turn, scanned-end}
 use Rattle.rules.proofs.scans.tops_of.Statement.{statement}
 use Rattle.rules.proofs.scans.tops_of.Tie as tie
 
 abbrev invariant-loop : tie.invariant-loop
 invariant-loop parents epochs marks size fresh₀ last₀ k₀ fresh last k =
-    Scanned (number_at parents) (number_at epochs) (markAt marks) (min size places) k fresh last
+    Scanned (number_at parents) (number_at epochs) (mark_at marks) (min size places) k fresh last
 
 abbrev decreases-loop : tie.decreases-loop
 decreases-loop parents epochs marks size fresh₀ last₀ k₀ fresh last k = k

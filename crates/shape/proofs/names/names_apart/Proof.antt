@@ -37,23 +37,23 @@ column c = ap length c.keys_of.ensures ∙ length-map c.before.args.t1.blocks _ 
 over : (c : tie.After-next-like invariant-loop decreases-loop)
     → let l = c.before.before.before.before in
     let t = rows l.before.before.args.t1 in
-    (i : ℕ) → i < c.next-Like.result.0 → same (at t i).name (at t l.loop.p).name ≡ false
+    (i : ℕ) → i < c.next_like.result.0 → same (at t i).name (at t l.loop.p).name ≡ false
 over c i m =
     let l = c.before.before.before.before in
     let h = held l.before.before in
-    passed l.before.before.args.t1 _ l.before.keys_of.ensures l.loop.p (omega arith) (omega arith) l.loop.q l.loop.invariant.5 i (omega (arith, c.next-Like.ensures))
+    passed l.before.before.args.t1 _ l.before.keys_of.ensures l.loop.p (omega arith) (omega arith) l.loop.q l.loop.invariant.5 i (omega (arith, c.next_like.ensures))
 
 -- where the search ends
 found : (c : tie.After-next-like invariant-loop decreases-loop)
     → let l = c.before.before.before.before in
-    (l.loop.q ≤ c.next-Like.result.0) × (c.next-Like.result.0 ≤ l.loop.p)
+    (l.loop.q ≤ c.next_like.result.0) × (c.next_like.result.0 ≤ l.loop.p)
 found c =
     let l = c.before.before.before.before in
     let keys = l.before.keys_of.result in
-    (omega (arith, c.next-Like.ensures, next-from keys l.loop.q l.loop.p (omega arith)), omega (arith, c.next-Like.ensures, next_le keys l.loop.q l.loop.p))
+    (omega (arith, c.next_like.ensures, next-from keys l.loop.q l.loop.p (omega arith)), omega (arith, c.next_like.ensures, next_le keys l.loop.q l.loop.p))
 
 -- a place that the search finds and that is not p is lower
-lower : (c : tie.Else2 invariant-loop decreases-loop) → c.before.next-Like.result.0 < c.before.before.before.before.before.loop.p
+lower : (c : tie.Else2 invariant-loop decreases-loop) → c.before.next_like.result.0 < c.before.before.before.before.before.loop.p
 lower c = omega (arith, found c.before, c.if2.false)
 
 -- what is compared are the names of two rows
@@ -61,13 +61,13 @@ compared : (c : tie.After-same-name invariant-loop decreases-loop)
     → let f = c.before.before.before.before.before.before in
     let l = f.before.before.before.before in
     let t = rows l.before.before.args.t1 in
-    c.same_name.result ≡ same (at t f.next-Like.result.0).name (at t l.loop.p).name
+    c.same_name.result ≡ same (at t f.next_like.result.0).name (at t l.loop.p).name
 compared c =
     let f = c.before.before.before.before.before.before in
     let l = f.before.before.before.before in
     let h = held l.before.before in
     let k = found f in
-    c.same_name.ensures ∙ names-of-rows l.before.before.args.t1 f.next-Like.result.0 l.loop.p _ _ (omega arith) (omega arith) (omega arith)
+    c.same_name.ensures ∙ names-of-rows l.before.before.args.t1 f.next_like.result.0 l.loop.p _ _ (omega arith) (omega arith) (omega arith)
 
 keys-of-requires : tie.Need-keys-of-requires invariant-loop decreases-loop
 keys-of-requires c κs = search rules
@@ -159,7 +159,7 @@ returns : tie.Need-returns invariant-loop decreases-loop
 returns c =
     let e = c.before.before.before.before.before.before in
     let l = e.before.before.before.before.before in
-    sym (names-fail _ l.loop.p e.before.next-Like.result.0 (omega arith) (lower e) (sym (compared c.before) ∙ c.if3.true))
+    sym (names-fail _ l.loop.p e.before.next_like.result.0 (omega arith) (lower e) (sym (compared c.before) ∙ c.if3.true))
 
 add-q : tie.Need-overflow-add-q invariant-loop decreases-loop
 add-q c =

@@ -3,15 +3,15 @@ use mathlib.Core.Path.{◌≡◌, ◌∙◌, sym}
 use borrow.Author.Rules.{rules}
 use borrow.Author.Tests.{not-false, not-true}
 use lib.ListN.{length}
-use Rattle.table.specs.Rows.{mostNodes}
+use Rattle.table.specs.Rows.{most_nodes}
 use Rattle.table.proofs.Laws.{fails, not-both, same_test}
-use Rattle.pala.specs.Shape.{isBlank, noVoters}
+use Rattle.pala.specs.Shape.{is_blank, no_voters}
 use Rattle.pala.proofs.Shapes.{blank_of, blank-tests}
 use Rattle.shape.proofs.Laws.{voters-none}
 use Rattle.shape.proofs.places.blank_row.Statement.{statement}
 use Rattle.shape.proofs.places.blank_row.Tie as tie
 
-held : (c : tie.Start) → length c.args.b.voters ≡ mostNodes
+held : (c : tie.Start) → length c.args.b.voters ≡ most_nodes
 held c = search rules
 
 slice-aggregate-no-bytes : tie.Need-slice-aggregate-no-bytes
@@ -48,7 +48,7 @@ returns-5 c =
     let b = named.before.before.before.before.before.args.b in
     c.voters-ok.ensures
     ∙ voters-none b (held named.before.before.before.before.before)
-    ∙ same_test (noVoters b.voters) (isBlank b)
+    ∙ same_test (no_voters b.voters) (is_blank b)
     (λ v.
     blank_of b
     (record {

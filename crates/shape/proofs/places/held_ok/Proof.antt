@@ -10,7 +10,7 @@ use lib.ListN.{length}
 use Rattle.table.specs.declared.Block.{Block}
 use Rattle.table.specs.Rows.{capacity, rows}
 use Rattle.table.proofs.Laws.{at_rows, length-unmap}
-use Rattle.pala.specs.Rules.{epochAt}
+use Rattle.pala.specs.Rules.{epoch_at}
 use Rattle.shape.specs.Parts.{row_ok}
 use Rattle.shape.proofs.Laws.{held_all, held-fails, row-order, row_up}
 use Rattle.shape.proofs.places.held_ok.Statement.{statement}
@@ -30,7 +30,7 @@ row : (c : tie.After-in-order invariant-loop decreases-loop)
     → let l = c.before.before.before.before in
     let s = l.before.args.t1 in
     c.in_order.result ≡ row_ok s.n (rows s) l.loop.p
-unfolding epochAt
+unfolding epoch_at
 row c =
     let l = c.before.before.before.before in
     let s = l.before.args.t1 in

@@ -3,8 +3,8 @@ use mathlib.Core.Path.{◌∙◌, sym}
 use native.Mathlib.Omega.{arith}
 use borrow.Author.Rules.{rules}
 use Rattle.table.proofs.Laws.{fails, not-both, same_test}
-use Rattle.pala.specs.Shape.{votersOk}
-use Rattle.shape.specs.Parts.{inOrder}
+use Rattle.pala.specs.Shape.{voters_ok}
+use Rattle.shape.specs.Parts.{in_order}
 use Rattle.shape.proofs.Laws.{order-of, order-tests}
 use Rattle.shape.proofs.places.in_order.Statement.{statement}
 use Rattle.shape.proofs.places.in_order.Tie as tie
@@ -32,7 +32,7 @@ returns-4 c =
     let named = c.before.before.before in
     let a = named.before.before.before.before.args in
     c.voters-ok.ensures
-    ∙ same_test (votersOk a.n a.b) (inOrder a.n a.up.0 a.b)
+    ∙ same_test (voters_ok a.n a.b) (in_order a.n a.up.0 a.b)
     (λ v.
     order-of _ _ _
     (record {

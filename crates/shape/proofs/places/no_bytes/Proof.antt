@@ -6,7 +6,7 @@ use native.Mathlib.Omega.{arith}
 use lib.Dec.{eqb}
 use lib.ListN.{get_or, length}
 use Rattle.table.specs.Scan.{all_below}
-use Rattle.table.proofs.Laws.{allBelow-step}
+use Rattle.table.proofs.Laws.{all_below-step}
 use Rattle.shape.proofs.Laws.{zeros-below}
 use Rattle.shape.proofs.places.no_bytes.Statement.{statement}
 use Rattle.shape.proofs.places.no_bytes.Tie as tie
@@ -35,7 +35,7 @@ loop-again c =
     let l = c.before.before in
     let bytes = l.before.args.bytes.now in
     let zero : ℕ → Bool = λ j. eqb (get_or bytes j 0) 0 in
-    (omega arith, ap (λ (t : Bool). t && zero l.loop.i) l.loop.invariant.1 ∙ sym (allBelow-step l.loop.i zero))
+    (omega arith, ap (λ (t : Bool). t && zero l.loop.i) l.loop.invariant.1 ∙ sym (all_below-step l.loop.i zero))
 
 returns : tie.Need-returns invariant-loop decreases-loop
 returns c =

@@ -10,14 +10,14 @@ use borrow.Author.Tests.{not-false, not-true}
 use lib.ListN.{get_or, length}
 use Rattle.table.specs.Rows.{blank, capacity}
 use Rattle.table.proofs.Laws.{get_d_any, length-unmap}
-use Rattle.pala.specs.Shape.{isBlank}
+use Rattle.pala.specs.Shape.{is_blank}
 use Rattle.shape.proofs.Laws.{unused-all, unused-fails}
 use Rattle.shape.proofs.places.unused_ok.Statement.{statement}
 use Rattle.shape.proofs.places.unused_ok.Tie as tie
 
 abbrev invariant-loop : tie.invariant-loop
 invariant-loop s p₀ p =
-    (s.count < p) × (p ≤ suc capacity) × ((i : ℕ) → i < p → (i ≡ 0) ⊎ (s.count < i) → isBlank (get_or s.blocks i blank) ≡ true)
+    (s.count < p) × (p ≤ suc capacity) × ((i : ℕ) → i < p → (i ≡ 0) ⊎ (s.count < i) → is_blank (get_or s.blocks i blank) ≡ true)
 
 abbrev decreases-loop : tie.decreases-loop
 decreases-loop s p₀ p = suc capacity - p
@@ -25,18 +25,18 @@ decreases-loop s p₀ p = suc capacity - p
 held : (c : tie.Start invariant-loop decreases-loop) → length c.args.t1.blocks ≡ suc capacity
 held c = search length-unmap
 
-root : (c : tie.After-blank-row invariant-loop decreases-loop) → c.blank-row.result ≡ isBlank (get_or c.before.before.args.t1.blocks 0 blank)
+root : (c : tie.After-blank-row invariant-loop decreases-loop) → c.blank-row.result ≡ is_blank (get_or c.before.before.args.t1.blocks 0 blank)
 root c =
     let h = held c.before.before in
-    c.blank-row.ensures ∙ ap isBlank (get_d_any c.before.before.args.t1.blocks 0 _ blank (omega arith))
+    c.blank-row.ensures ∙ ap is_blank (get_d_any c.before.before.args.t1.blocks 0 _ blank (omega arith))
 
 row : (c : tie.After-blank-row2 invariant-loop decreases-loop)
     → let l = c.before.before.before in
-    c.blank-row2.result ≡ isBlank (get_or l.before.before.before.before.args.t1.blocks l.loop.p blank)
+    c.blank-row2.result ≡ is_blank (get_or l.before.before.before.before.args.t1.blocks l.loop.p blank)
 row c =
     let l = c.before.before.before in
     let h = held l.before.before.before.before in
-    c.blank-row2.ensures ∙ ap isBlank (get_d_any l.before.before.before.before.args.t1.blocks l.loop.p _ blank (omega arith))
+    c.blank-row2.ensures ∙ ap is_blank (get_d_any l.before.before.before.before.args.t1.blocks l.loop.p _ blank (omega arith))
 
 element-copy-out-root : tie.Need-element-copy-out-root invariant-loop decreases-loop
 element-copy-out-root c = omega (arith, held c)
@@ -55,7 +55,7 @@ loop-holds c =
     let a = c.before.before.before.args in (
       omega arith,
       omega arith,
-      λ i m u. ⊎_elim (λ z. ap (λ (k : ℕ). isBlank (get_or a.t1.blocks k blank)) z ∙ sym (root c.before) ∙ not-false _ c.if1.false) (λ z. absurd (omega arith)) u,
+      λ i m u. ⊎_elim (λ z. ap (λ (k : ℕ). is_blank (get_or a.t1.blocks k blank)) z ∙ sym (root c.before) ∙ not-false _ c.if1.false) (λ z. absurd (omega arith)) u,
     )
 
 cast-i : tie.Need-overflow-cast-i invariant-loop decreases-loop

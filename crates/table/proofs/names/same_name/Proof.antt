@@ -5,16 +5,16 @@ use native.Mathlib.Omega.{arith}
 use borrow.Author.Count.{below_more}
 use borrow.Author.Rules.{rules}
 use lib.ListN.{get_or}
-use Rattle.table.specs.Rows.{nameBytes}
+use Rattle.table.specs.Rows.{name_bytes}
 use Rattle.table.proofs.Laws.{same-all, same_differs}
 use Rattle.table.proofs.names.same_name.Statement.{statement}
 use Rattle.table.proofs.names.same_name.Tie as tie
 
 abbrev invariant-loop : tie.invariant-loop
-invariant-loop a b k₀ k = (k ≤ nameBytes) × ((i : ℕ) → i < k → get_or a i 0 ≡ get_or b i 0)
+invariant-loop a b k₀ k = (k ≤ name_bytes) × ((i : ℕ) → i < k → get_or a i 0 ≡ get_or b i 0)
 
 abbrev decreases-loop : tie.decreases-loop
-decreases-loop a b k₀ k = nameBytes - k
+decreases-loop a b k₀ k = name_bytes - k
 
 loop-holds : tie.Need-loop-init invariant-loop decreases-loop
 loop-holds c = (omega arith, λ i l. absurd (omega arith))
@@ -41,7 +41,7 @@ loop-again : tie.Need-loop-preserved invariant-loop decreases-loop
 loop-again c = (omega arith, below_more _ _ c.before.before.loop.invariant.1 c.if1.false)
 
 returns-2 : tie.Need-returns-2 invariant-loop decreases-loop
-returns-2 c = sym (same-all _ _ nameBytes (search rules) (search rules) (λ i l. c.before.loop.invariant.1 i (omega arith)))
+returns-2 c = sym (same-all _ _ name_bytes (search rules) (search rules) (λ i l. c.before.loop.invariant.1 i (omega arith)))
 
 pub same-name-spec : {M : Type 1} → statement M
 same-name-spec =

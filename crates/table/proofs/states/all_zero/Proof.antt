@@ -1,6 +1,6 @@
 -- The all-zero state is the plain one of zeros. Assumes nothing.
 use borrow.Author.Rules.{rules}
-use Rattle.table.specs.Rows.{allZero}
+use Rattle.table.specs.Rows.{all_zero}
 use Rattle.table.proofs.states.all_zero.Statement.{statement}
 use Rattle.table.proofs.states.all_zero.Tie as tie
 
@@ -8,7 +8,7 @@ plain-requires : tie.Need-plain-requires
 plain-requires c κs = search rules
 
 returns : tie.Need-returns
-unfolding allZero
+unfolding all_zero
 returns c = c.plain.ensures
 
 pub all-zero-spec : {M : Type 1} → statement M

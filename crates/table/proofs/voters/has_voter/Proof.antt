@@ -1,13 +1,13 @@
 -- Is the node among a block's voters: past the set none is. Assumes nothing.
 use mathlib.Core.Path.{refl, sym}
 use borrow.Author.Rules.{rules}
-use Rattle.table.specs.Rows.{hasVoter, mostNodes}
+use Rattle.table.specs.Rows.{has_voter, most_nodes}
 use Rattle.table.proofs.Laws.{voter-past}
 use Rattle.table.proofs.voters.has_voter.Statement.{statement}
 use Rattle.table.proofs.voters.has_voter.Tie as tie
 
 returns : tie.Need-returns
-returns c = sym (voter-past _ _ mostNodes (search rules) c.if1.true)
+returns c = sym (voter-past _ _ most_nodes (search rules) c.if1.true)
 
 cast-i : tie.Need-overflow-cast-i
 cast-i c = search rules
@@ -16,7 +16,7 @@ element-copy-out-result : tie.Need-element-copy-out-result
 element-copy-out-result c = search rules
 
 returns-2 : tie.Need-returns-2
-unfolding hasVoter
+unfolding has_voter
 returns-2 c = refl
 
 pub has-voter-spec : {M : Type 1} → statement M
