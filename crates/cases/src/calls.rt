@@ -18,7 +18,7 @@ const LONG: usize = 200;
 const LENGTHS: usize = LONG + 1;
 
 // The answer's number, the state and the out buffer after a call.
-#[derive(Drop)]
+#[derive(Clone, Copy)]
 pub struct Outcome {
     pub answer: u32,
     pub state: State,

@@ -1,6 +1,8 @@
 // The program `cases`: plays the orders on its standard input through the public `node::step`, and prints what came back.
 // Its file `stdin` has 01's cases and calls at the limits of its rules; its file `stdout` was written from 01, and a check compares.
 
+#![tactic(auto)]
+
 mod calls;
 mod describe;
 mod harms;

@@ -42,7 +42,7 @@ pub const LAST_KIND: u8 = b'6';
 const WRAP: u64 = 4294967296;
 
 // An order: of its words the first letter counts, and the numbers between its commas.
-#[derive(Drop)]
+#[derive(Clone, Copy)]
 pub struct Order {
     pub opener: u8,
     pub word: u8,

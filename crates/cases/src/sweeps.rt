@@ -34,7 +34,7 @@ const ITSELF: u32 = 2;
 const ABOVE: u32 = 3;
 
 // A change at each `at`, each time over each `to` that stands so to it, and what must come of it.
-#[derive(Drop)]
+#[derive(Clone, Copy)]
 struct Sweep {
     word: u8,
     at_first: u32,

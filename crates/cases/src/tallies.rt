@@ -6,7 +6,7 @@ use crate::sweeps::swept;
 use std::num::wrapping_add_u32;
 use table::State;
 
-#[derive(Drop)]
+#[derive(Clone, Copy)]
 pub struct Tally {
     pub good: u32,
     pub tried: u32,

@@ -1,6 +1,8 @@
 // The program `desk`: reads a head and the records of up to eight gateways from standard input, and prints a line for each record.
 // It only reads and writes, in large pieces; the text is made by `hall` and `lines`, whose promises say that it is M-101's.
 
+#![tactic(auto)]
+
 ghost use Rattle.std.specs.Prelude.{◌≤◌};
 
 use accord::Hall;
@@ -18,7 +20,7 @@ const TEXT_BYTES: usize = 94208;
 const LINE_BYTES: usize = 32;
 
 // What is carried from one piece to the next, and whether there may be one.
-#[derive(Drop)]
+#[derive(Clone, Copy)]
 struct Going {
     hall: Hall,
     before: u64,

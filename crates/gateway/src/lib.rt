@@ -1,6 +1,8 @@
 // What gateway firmware calls: a run of records and the relation of two final lists, on numbers and byte slices alone.
 // It relies on `node` for the step and on `lists` for reading out.
 
+#![tactic(auto)]
+
 mod runs;
 
 ghost use Rattle.std.specs.Prelude.{◌≡◌};

@@ -16,7 +16,7 @@ use record::kinds::{CAST_NOW, PROPOSAL_HEARD, PROPOSE_NOW, VOTE_HEARD};
 use table::State;
 
 // How many names each final list has, and whether the lists agree.
-#[derive(Drop)]
+#[derive(Clone, Copy)]
 pub struct Beside {
     pub counts: [u32; 8],
     pub word: bool,

@@ -15,7 +15,7 @@ use table::{Answer, State};
 const HEAD_BYTES: usize = 2;
 
 // What a head hands back.
-#[derive(Drop)]
+#[derive(Clone, Copy)]
 pub struct Opening {
     pub answer: Answer,
     pub hall: Hall,

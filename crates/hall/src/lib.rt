@@ -2,6 +2,8 @@
 // It relies on `node` for the step, on `lists` for the final lists and on `lines` for the text; its promises cite `accord`.
 // What a record asks of the other gateways is read from lent bytes beside the states, so that one record copies one state.
 
+#![tactic(auto)]
+
 mod beside;
 mod book;
 mod chains;

@@ -30,7 +30,7 @@ const BOOK_BYTES: usize = 49152;
 const LISTS_BYTES: usize = 16384;
 
 // What a piece hands back: the answer, the hall and the record number after it, and the length of its text.
-#[derive(Drop)]
+#[derive(Clone, Copy)]
 pub struct Told {
     pub answer: Answer,
     pub hall: Hall,

@@ -19,7 +19,7 @@ const LINE_MOST: usize = 49;
 const LAST_NUMBER: u64 = 18446744073709551615;
 
 // What a piece hands back: the answer, the state and the record number after it, and the length of its text.
-#[derive(Drop)]
+#[derive(Clone, Copy)]
 pub struct Played {
     pub answer: Answer,
     pub state: State,

@@ -11,7 +11,7 @@ use shape::well_shaped;
 use table::{Answer, CAPACITY, State};
 
 // What reading a final list answers: "the count is returned".
-#[derive(Drop)]
+#[derive(Clone, Copy)]
 pub struct Listing {
     pub answer: Answer,
     pub count: u32,

@@ -13,7 +13,7 @@ use table::voters::with_voter;
 use table::{Block, Epoch, MOST_NODES, NodeNo, Place, State};
 
 // What a taken record changes first: one row, one clock and the numbers beside them. What stays is written as it stands.
-#[derive(Drop)]
+#[derive(Clone, Copy)]
 pub struct Effect {
     pub row: Place,
     pub block: Block,

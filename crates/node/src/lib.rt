@@ -2,6 +2,8 @@
 // five steps. It decides first, which rebuilds no state, and then applies what is taken.
 // It relies on `record` for the bytes, on `rules` for the rules that read the table and on `shape` for the test of a state.
 
+#![tactic(auto)]
+
 pub mod answers;
 mod decide;
 mod effects;
@@ -28,21 +30,21 @@ use table::states::{all_zero, fresh};
 use table::{Answer, NodeNo, Place, State};
 
 // What a call hands back.
-#[derive(Drop)]
+#[derive(Clone, Copy)]
 pub struct Reply {
     pub answer: Answer,
     pub state: State,
 }
 
 // What is decided of a record: the answer and, where it is taken, the place that the direct effect needs.
-#[derive(Drop)]
+#[derive(Clone, Copy)]
 struct Move {
     answer: Answer,
     place: Place,
 }
 
 // What is decided of a record of any length: its fields, the answer and, where it is taken, the place.
-#[derive(Drop)]
+#[derive(Clone, Copy)]
 pub struct Decision {
     pub fields: Fields,
     pub answer: Answer,

@@ -1,6 +1,8 @@
 // "The 96-byte record": reading its fields, telling whether the unused ones are zero, and writing a record to send.
 // It relies on `table` for the counts and names; its promises cite the definitions of `pala`.
 
+#![tactic(auto)]
+
 mod copy;
 mod filler;
 pub mod kinds;
@@ -46,7 +48,7 @@ const THIRD: u32 = 65536;
 const FOURTH: u32 = 16777216;
 
 // What a record says; `clean` where bytes 2 and 3 and the fields that its kind does not use are zero.
-#[derive(Drop)]
+#[derive(Clone, Copy)]
 pub struct Fields {
     pub name: [u8; 32],
     pub parent: [u8; 32],

@@ -1,6 +1,8 @@
 // The program `replay`: reads n, own number and records from standard input, and prints a line for each record.
 // It only reads and writes, in large pieces; the text is made by `lines`, whose promises say that it is 01's.
 
+#![tactic(auto)]
+
 ghost use Rattle.std.specs.Prelude.{◌≤◌};
 
 use libc::{STDIN_FILENO, STDOUT_FILENO};
@@ -18,7 +20,7 @@ const TEXT_BYTES: usize = 25088;
 const LINE_BYTES: usize = 32;
 
 // What is carried from one piece to the next, and whether there may be one.
-#[derive(Drop)]
+#[derive(Clone, Copy)]
 struct Going {
     state: State,
     before: u64,

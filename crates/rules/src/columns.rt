@@ -9,7 +9,7 @@ use table::voters::votes;
 use table::{CAPACITY, State};
 
 // Of each place its block's parent and epoch, and whether its votes reach the quorum; and how many rows the table has.
-#[derive(Drop)]
+#[derive(Clone, Copy)]
 pub struct Columns {
     pub parents: [u32; 65],
     pub epochs: [u32; 65],

@@ -2,6 +2,8 @@
 // stands before the five steps. Every state is answered, of whatever shape.
 // It relies on `table` for the types and leaves; its promises cite the definitions of `pala`.
 
+#![tactic(auto)]
+
 use table::{Epoch, Place};
 
 mod chains;
@@ -13,7 +15,7 @@ mod scans;
 pub mod steps;
 
 // The freshest block: its place and its epoch.
-#[derive(Drop)]
+#[derive(Clone, Copy)]
 pub struct Top {
     pub place: Place,
     pub epoch: Epoch,
@@ -21,7 +23,7 @@ pub struct Top {
 
 // What the five steps need of a state: the freshest block's epoch, the greater of the local epoch and the agreed clock,
 // the candidate, and whether the candidate descends from the kept final block and the kept one from it.
-#[derive(Drop)]
+#[derive(Clone, Copy)]
 pub struct Standing {
     pub fresh: Epoch,
     pub clock: Epoch,

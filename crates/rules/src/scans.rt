@@ -14,7 +14,7 @@ use table::{CAPACITY, Epoch, Place};
 const PLACES: u32 = CAPACITY + 1;
 
 // The freshest block, and M-104's "firm normal block of highest epoch".
-#[derive(Drop)]
+#[derive(Clone, Copy)]
 pub struct Tops {
     pub fresh: Place,
     pub normal: Place,

@@ -2,6 +2,8 @@
 // It runs on every public call, so no loop over the rows hands a State on.
 // It relies on `table` for the types and on `pala` for what well shaped means.
 
+#![tactic(auto)]
+
 mod clocks;
 mod names;
 mod places;

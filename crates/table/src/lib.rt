@@ -2,6 +2,8 @@
 // comparing names, finding a name, the block at a place, setting and counting voters, the fresh state.
 // It relies on nothing but the kit; the meaning of 01 (`pala`) and all code stand above it.
 
+#![tactic(auto)]
+
 pub mod names;
 pub mod rows;
 pub mod states;
@@ -17,17 +19,17 @@ pub const NAME_BYTES: u32 = 32;
 pub const PAYLOAD_BYTES: u32 = 24;
 
 // "An epoch, a node number and a place in the table are three separate counts and never stand for one another."
-#[derive(Drop)]
+#[derive(Clone, Copy)]
 pub struct Epoch(pub u32);
 
-#[derive(Drop)]
+#[derive(Clone, Copy)]
 pub struct NodeNo(pub u32);
 
-#[derive(Drop)]
+#[derive(Clone, Copy)]
 pub struct Place(pub u32);
 
 // 96 bytes with no padding: the fields' sizes are 32, 24, 32, 4 and 4.
-#[derive(Drop)]
+#[derive(Clone, Copy)]
 pub struct Block {
     pub name: [u8; 32],
     pub payload: [u8; 24],
@@ -37,7 +39,7 @@ pub struct Block {
 }
 
 // A node's state. The place of a block is its index, and place 0 is the genesis.
-#[derive(Drop)]
+#[derive(Clone, Copy)]
 pub struct State {
     pub blocks: [Block; 65],
     pub clocks: [Epoch; 32],
@@ -53,7 +55,7 @@ pub struct State {
 }
 
 // 01's answers, in the order of their numbers; `number` of `pala` gives each its number.
-#[derive(Drop)]
+#[derive(Clone, Copy)]
 pub enum Answer {
     Taken,
     State,
@@ -74,7 +76,7 @@ pub enum Answer {
 }
 
 // How two final lists stand to one another.
-#[derive(Drop)]
+#[derive(Clone, Copy)]
 pub enum Relation {
     Equal,
     FirstLonger,

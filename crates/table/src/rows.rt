@@ -7,7 +7,7 @@ use crate::names::same_name;
 use crate::{Block, CAPACITY, Place, State};
 
 // Where a name was found, and the block that has it.
-#[derive(Drop)]
+#[derive(Clone, Copy)]
 pub struct Found {
     pub place: Place,
     pub block: Block,

@@ -2,6 +2,8 @@
 // It reads cases from standard input until one is short and writes a reply for each; the second program makes the cases and compares.
 // It relies on `node` for the step and on `lists` for the final list, and takes nothing of a state for granted.
 
+#![tactic(auto)]
+
 mod cases;
 mod replies;
 
