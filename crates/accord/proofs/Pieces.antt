@@ -12,6 +12,7 @@ use Rattle.pala.proofs.Stretches.{cut-append, cut-count}
 use Rattle.accord.specs.declared.Hall.{Hall}
 use Rattle.accord.specs.Head.{good_head, fresh_hall}
 use Rattle.accord.specs.Rulings.{verdict}
+use Rattle.accord.specs.Words.{agree}
 use Rattle.accord.specs.Text.{sent_bytes, receiver_of, record_of, hall_played, hall_line, lines_with, hall_lines, hall_text}
 use Rattle.accord.proofs.Played.{hall_next}
 use Rattle.accord.proofs.NeverNo.{good-text}
@@ -56,7 +57,7 @@ module _ (k : ℕ) (xs ys : List ℕ) (e : length xs ≡ k * sent_bytes) where
   unfolding hall_lines
   hall-pieces h before =
       ap (hall_lines h before) cut-whole
-      ∙ hall-lines-append _ h before (cut sent_bytes xs) (cut sent_bytes ys)
+      ∙ hall-lines-append agree h before (cut sent_bytes xs) (cut sent_bytes ys)
       ∙ ap (λ n. hall_lines h before (cut sent_bytes xs) ++ hall_lines (hall_played h (cut sent_bytes xs)) (before + n) (cut sent_bytes ys)) (cut-length k xs e)
 
 -- pieces of which each but the last is of whole records

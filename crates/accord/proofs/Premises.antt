@@ -10,7 +10,6 @@ use lib.ListN.{length}
 use borrow.Author.Tests.{eq-eqb, not-false}
 use Rattle.table.specs.declared.Block.{Block}
 use Rattle.table.specs.declared.State.{State}
-use Rattle.table.specs.Bytes.{same}
 use Rattle.table.specs.Rows.{most_nodes, rows, size, at, has_voter}
 use Rattle.table.proofs.Laws.{not-both}
 use Rattle.pala.specs.Answers.{number, taken}

@@ -1,6 +1,5 @@
 -- Demand 3's premises in the form "at each record that an honest gateway takes ..": what a program that holds all the states can check as it goes.
 use Rattle.std.specs.Prelude.{ℕ, ◌≤◌, ◌<◌, ◌≡◌, ◌⊎◌, Bool, length}
-use Rattle.table.specs.Scan.{count}
 use Rattle.table.specs.Rows.{most_nodes, rows}
 use Rattle.pala.specs.Answers.{number}
 use Rattle.pala.specs.Record.{kind_of, sender_of, name_of, proposal_heard, vote_heard, propose_now}
