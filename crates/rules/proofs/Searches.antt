@@ -6,7 +6,6 @@ use native.Mathlib.Omega.{arith}
 use borrow.Author.Tests.{ltb-true, ltb-false, lt-ltb, le-ltb, le-leb, lt-leb, eq-eqb, ne_eqb}
 use lib.Dec.{eqb, ltb, leb}
 use Rattle.table.specs.Scan.{pick, highest}
-use Rattle.table.specs.Rows.{at}
 use Rattle.table.proofs.Laws.{pick_yes, pick_no, pick-case, highest-step}
 use Rattle.pala.specs.Rules.{lower}
 use Rattle.rules.specs.declared.Top.{Top}

@@ -10,7 +10,7 @@ use Rattle.table.specs.declared.Block.{Block}
 use Rattle.table.specs.declared.Epoch.{Epoch}
 use Rattle.table.specs.declared.Place.{Place}
 use Rattle.table.specs.declared.State.{State}
-use Rattle.table.specs.Scan.{count, lowest}
+use Rattle.table.specs.Scan.{lowest}
 use Rattle.table.specs.Rows.{rows, size, at, votes}
 use Rattle.table.proofs.Laws.{at_out, at_rows, size-rows}
 use Rattle.pala.specs.Counts.{quorum}
