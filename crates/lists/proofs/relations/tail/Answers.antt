@@ -1,0 +1,45 @@
+-- The tail: of the longer list what it has more, else the empty start of the first. Assumes nothing.
+use Rattle.lists.proofs.Sides.{empty-tail, first-longer, first_tail, second-longer, second-tail}
+use Rattle.lists.specs.Tails.{tail_start}
+use Rattle.pala.specs.Lists.{tail_of}
+use mathlib.Core.Path.{◌∙◌, refl, sym}
+use native.Mathlib.Omega.{arith}
+use Rattle.lists.proofs.relations.tail.Goals as goal
+
+pub slice_bounds-result-count-in-FirstLonger : goal.slice_bounds-result-count-in-FirstLonger
+slice_bounds-result-count-in-FirstLonger c =
+    let a = c.args in
+    omega (arith, first-longer a.a.now a.b.now (sym c.relation-x.ensures ∙ c.in-FirstLonger.is))
+
+pub slice_bounds-result-start-in-FirstLonger : goal.slice_bounds-result-start-in-FirstLonger
+slice_bounds-result-start-in-FirstLonger c =
+    let a = c.args in
+    omega (arith, first-longer a.a.now a.b.now (sym c.relation-x.ensures ∙ c.in-FirstLonger.is))
+
+pub slice_bounds-result-count-in-SecondLonger : goal.slice_bounds-result-count-in-SecondLonger
+slice_bounds-result-count-in-SecondLonger c =
+    let a = c.args in
+    omega (arith, second-longer a.a.now a.b.now (sym c.relation-x.ensures ∙ c.in-SecondLonger.is))
+
+pub slice_bounds-result-start-in-SecondLonger : goal.slice_bounds-result-start-in-SecondLonger
+slice_bounds-result-start-in-SecondLonger c =
+    let a = c.args in
+    omega (arith, second-longer a.a.now a.b.now (sym c.relation-x.ensures ∙ c.in-SecondLonger.is))
+
+pub returns-in-Equal : goal.returns-in-Equal
+unfolding tail_of tail_start
+returns-in-Equal c = let e = empty-tail _ _ _ _ _ c.relation-x.ensures _ refl refl c.in-Equal.is in record { result_value = e.0; ref_ptr_value = e.1 }
+
+pub returns-in-FirstLonger : goal.returns-in-FirstLonger
+returns-in-FirstLonger c = let e = first_tail _ _ _ _ _ c.relation-x.ensures c.in-FirstLonger.is in record { result_value = e.0; ref_ptr_value = e.1 }
+
+pub returns-in-SecondLonger : goal.returns-in-SecondLonger
+returns-in-SecondLonger c = let e = second-tail _ _ _ _ _ c.relation-x.ensures c.in-SecondLonger.is in record { result_value = e.0; ref_ptr_value = e.1 }
+
+pub returns-in-Fork : goal.returns-in-Fork
+unfolding tail_of tail_start
+returns-in-Fork c = let e = empty-tail _ _ _ _ _ c.relation-x.ensures _ refl refl c.in-Fork.is in record { result_value = e.0; ref_ptr_value = e.1 }
+
+pub returns-in-Broken : goal.returns-in-Broken
+unfolding tail_of tail_start
+returns-in-Broken c = let e = empty-tail _ _ _ _ _ c.relation-x.ensures _ refl refl c.in-Broken.is in record { result_value = e.0; ref_ptr_value = e.1 }
