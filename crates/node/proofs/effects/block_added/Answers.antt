@@ -1,0 +1,16 @@
+-- One block more, at the next place. Assumes nothing.
+use Prim.Native.Nat.{suc}
+use Rattle.node.proofs.Stores.{block-does}
+use Rattle.table.specs.Rows.{capacity}
+use borrow.Author.Rules.{rules}
+use lib.ListN.{length}
+use mathlib.Core.Path.{◌≡◌}
+use Rattle.node.proofs.effects.block_added.Goals as goal
+use Rattle.node.proofs.effects.block_added.Goals.{Start}
+
+held : (c : Start) → length c.args.s.blocks ≡ suc capacity
+held c = search rules
+
+pub returns : goal.returns
+returns c =
+    block-does _ (held (goal.at.returns c).Start) _ _ _ _ c.requires.0 c.requires.1 c.kept_clock-clock.ensures
