@@ -1,5 +1,5 @@
 -- A piece of a recording, record by record: what is written so far, then the lines of what is left. Assumes nothing.
-use Prim.Native.Nat.{ℕ, suc, ◌+◌, ◌-◌, ◌*◌, ◌≤◌, ◌<◌, min}
+use Prim.Native.Nat.{ℕ, zero, suc, ◌+◌, ◌-◌, ◌*◌, ◌≤◌, ◌<◌, min}
 use mathlib.Core.List.{List, [], ◌∷◌, ◌++◌, append_assoc, append-nil}
 use mathlib.Core.Path.{◌≡◌, refl, sym, ap, ◌∙◌}
 use native.Mathlib.Nat.{zero-add, mul-suc}
@@ -106,6 +106,7 @@ module _ {X : Type 0} (T : Tale X) {x : X} {before : ℕ} {input text₀ : List 
     going-room l = omega (arith, going-length, g.fits, at_least T.most _ (some_left l))
       where
         at_least : (m n : ℕ) → 0 < n → m ≤ m * n
+        at_least m zero h = elim h [ ]
         at_least m (suc n) h = omega (arith, mul-suc m n)
 
     -- at the end of the input the piece is played
