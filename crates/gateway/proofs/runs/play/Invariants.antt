@@ -1,18 +1,9 @@
 -- Each record is decided on the newest state, and a taken one makes the next; what is left of the records gives the rest.
-use Prim.Native.Nat.{ℕ, ◌-◌, ◌%◌, ◌≤◌}
-use Rattle.node.proofs.Calls.{decided-same}
-use Rattle.pala.proofs.Playing.{Playable, step-playable}
-use Rattle.pala.proofs.Stretches.{part, played-next, played-end}
-use Rattle.pala.specs.Answers.{taken}
-use Rattle.pala.specs.Run.{lent, played, stretches}
-use Rattle.pala.specs.Step.{step}
-use Rattle.table.proofs.Laws.{length-unmap}
-use borrow.Author.Rules.{rules}
+use Prim.Native.Nat.{◌-◌, ◌%◌, ◌≤◌}
+use Rattle.pala.proofs.Playing.{Playable}
+use Rattle.pala.specs.Run.{played, stretches}
 use lib.ListN.{length, drop}
-use mathlib.Core.List.{List}
-use mathlib.Core.Logic.{⊎_elim}
-use mathlib.Core.Path.{◌≡◌, refl, sym, ◌∙◌, subst}
-use native.Mathlib.Omega.{arith}
+use mathlib.Core.Path.{◌≡◌}
 use Rattle.gateway.proofs.runs.play.Given as goal
 
 abbrev pub invariant-loop-from : goal.invariant-loop-from

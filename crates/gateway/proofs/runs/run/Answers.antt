@@ -6,8 +6,6 @@ use Rattle.pala.specs.Run.{Ran, played, stretches}
 use Rattle.pala.specs.Shape.{well_shaped}
 use Rattle.pala.specs.Step.{Started}
 use Rattle.table.specs.declared.State.{State}
-use borrow.Author.Rules.{rules}
-use borrow.Author.Tests.{not-true, not-false}
 use mathlib.Core.Bool.{true}
 use mathlib.Core.Path.{◌≡◌, ap, sym, ◌∙◌, subst}
 use Rattle.gateway.proofs.runs.run.Goals as goal

@@ -1,0 +1,27 @@
+-- The line with the word that tells.
+use Prim.Native.Nat.{ℕ}
+use Rattle.accord.specs.Text.{yes_word, no_word}
+use Rattle.lines.specs.Text.{worded_at}
+use Rattle.table.proofs.Laws.{pick_yes, pick_no}
+use borrow.Author.Rules.{rules}
+use mathlib.Core.List.{List}
+use mathlib.Core.Path.{ap, sym, ◌∙◌}
+use Rattle.hall.proofs.pieces.put_said.Goals as goal
+
+-- UNKNOWN slice-aggregate-put-worded : tie.Need-slice-aggregate-put-worded
+-- slice-aggregate-put-worded c = search rules
+
+pub returns-then-word : goal.returns-then-word
+returns-then-word c =
+    let a = c.args in
+    c.put_worded.ensures
+    ∙ ap (λ (w : List ℕ). worded_at a.k a.told w a.at a.text.now) (sym (pick_yes a.word yes_word no_word c.if-word.true))
+
+-- UNKNOWN slice-aggregate-put-worded-2 : tie.Need-slice-aggregate-put-worded-2
+-- slice-aggregate-put-worded-2 c = search rules
+
+pub returns : goal.returns
+returns c =
+    let a = c.args in
+    c.put_worded-2.ensures
+    ∙ ap (λ (w : List ℕ). worded_at a.k a.told w a.at a.text.now) (sym (pick_no a.word yes_word no_word c.if-word.false))
