@@ -1,6 +1,6 @@
 -- The lengths that values of the code have, however deep they lie in arrays. Assumes nothing.
 use Prim.Native.Nat.{ℕ, zero, suc, ◌≤◌, ◌<◌}
-use mathlib.Core.List.{List, [], ◌∷◌, map}
+use mathlib.Core.List.{List, [], ◌∷◌}
 use mathlib.Core.Path.{sym, subst}
 use native.Mathlib.Decide.{dec_lt}
 use native.Mathlib.Nat.{not-suc-le-zero, le_of_suc-le-suc}
@@ -13,8 +13,8 @@ use denote.Laws.{Is}
 use denote.Array.{each}
 use Rattle.table.specs.declared.Block.{Block}
 use Rattle.table.specs.declared.State.{State}
-use Rattle.table.specs.Rows.{name_bytes, payload_bytes, blank, all_zero, rows, size, at}
-use Rattle.table.proofs.Laws.{length-unmap, size-rows, at_rows, at-past}
+use Rattle.table.specs.Rows.{blank, all_zero, rows, size, at}
+use Rattle.table.proofs.Laws.{size-rows, at_rows, at-past}
 use Rattle.table.specs.contracts.Block as block
 use Rattle.table.specs.contracts.State as state
 use Rattle.accord.specs.declared.Hall.{Hall}
@@ -25,25 +25,25 @@ use Rattle.hall.specs.Book.{Whole}
 
 -- an element of an array is a value of the code
 each_at :
-    {X : Type 0} (R : RattleType) (to : X → R.Denot) (d : X) (xs : List X) (us : List Val) → shadow (each R.Denot R.own (map to xs) us)
-    → (k : ℕ) → k < length xs → (u : Val) × Is R (to (get_or xs k d)) (u ∷ [])
-each_at R to d [] us s k l = absurd (not-suc-le-zero l)
-each_at R to d (x ∷ xs) [] s k l = absurd s
-each_at R to d (x ∷ xs) (u ∷ us) s zero l = (u, s.0)
-each_at R to d (x ∷ xs) (u ∷ us) s (suc k) l = each_at R to d xs us s.1 k (le_of_suc-le-suc l)
+    (R : RattleType) (d : R.Denot) (xs : List R.Denot) (us : List Val) → shadow (each R.Denot R.own_val xs us)
+    → (k : ℕ) → k < length xs → (u : Val) × Is R (get_or xs k d) (u ∷ [])
+each_at R d [] us s k l = absurd (not-suc-le-zero l)
+each_at R d (x ∷ xs) [] s k l = absurd s
+each_at R d (x ∷ xs) (u ∷ us) s zero l = (u, s.0)
+each_at R d (x ∷ xs) (u ∷ us) s (suc k) l = each_at R d xs us s.1 k (le_of_suc-le-suc l)
 
 -- a block
 block-whole : (b : Block) (vs : List Val) → Is block.the_row b vs → Whole b
 block-whole b vs g =
     record {
-      name = length-unmap (λ v. v) b.name name_bytes g.1.1.0.1.0.1;
-      payload = length-unmap (λ v. v) b.payload payload_bytes g.1.1.1.0.1.0.1;
+      name = g.1.1.0.1.0.1;
+      payload = g.1.1.1.0.1.0.1;
     }
 
 -- each row that a state has
 state-whole : (s : State) (vs : List Val) → Is state.the_row s vs → (p : ℕ) → p < length s.blocks → Whole (get_or s.blocks p blank)
 state-whole s vs g p l =
-    let (u, b) = each_at (block.the_field).row (block.the_type).to blank s.blocks g.1.1.0.0 g.1.1.0.1.1 p l in
+    let (u, b) = each_at block.the_row blank s.blocks g.1.1.0.0 g.1.1.0.1.1 p l in
     block-whole (get_or s.blocks p blank) (u ∷ []) b
 
 -- so each row of its table, and the root past its end
@@ -61,5 +61,5 @@ pub hall-whole : (h : Hall) (vs : List Val) → Is hall.the_row h vs → (i : �
     → (p : ℕ) → Whole (at (table_of h i) p)
 unfolding gateway table_of
 hall-whole h vs g i l =
-    let (u, s) = each_at (state.the_field).row (state.the_type).to all_zero h.states g.1.1.0.0 g.1.1.0.1.1 i l in
+    let (u, s) = each_at state.the_row all_zero h.states g.1.1.0.0 g.1.1.0.1.1 i l in
     table-whole (get_or h.states i all_zero) (u ∷ []) s

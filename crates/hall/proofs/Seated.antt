@@ -76,10 +76,16 @@ module _ {h : Hall} (k : Kept h) where
       pick-case Kept (passes (verdict h to r)) (seated h to (step (gateway h to) r lent).state) h
       (λ e. kept_step to (k.low to (allowed h to r e).honest) r lent) (λ _. k)
 
-pub kept-played : {h : Hall} → Kept h → (xs : List (List ℕ)) → Kept (hall_played h xs)
+-- what each record leaves true, all of them do
+played-case :
+    (P : Hall → Type 0) → ((h : Hall) (to : ℕ) (r : List ℕ) → P h → P (hall_after h to r))
+    → (xs : List (List ℕ)) (h : Hall) → P h → P (hall_played h xs)
 unfolding hall_played
-kept-played k [] = k
-kept-played k (x ∷ xs) = kept-played (kept-after k (receiver_of x) (record_of x)) xs
+played-case P on [] h p = p
+played-case P on (x ∷ xs) h p = played-case P on xs (hall_after h (receiver_of x) (record_of x)) (on h (receiver_of x) (record_of x) p)
+
+pub kept-played : {h : Hall} → Kept h → (xs : List (List ℕ)) → Kept (hall_played h xs)
+kept-played {h} k xs = played-case Kept (λ g to r j. kept-after j to r) xs h k
 
 -- ---- the shape of a hall
 

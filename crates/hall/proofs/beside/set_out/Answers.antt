@@ -1,6 +1,5 @@
 -- The book filled, the lists written, and what they tell.
 use Rattle.hall.proofs.Agreeing.{agree-is}
-use borrow.Author.Rules.{rules}
 use mathlib.Core.Path.{◌∙◌}
 use Rattle.hall.proofs.beside.set_out.Goals as goal
 

@@ -3,7 +3,6 @@ use Prim.Native.Nat.{ℕ}
 use Rattle.hall.specs.Book.{touched}
 use Rattle.table.proofs.Laws.{pick_yes, pick_no}
 use Rattle.table.specs.Scan.{pick}
-use borrow.Author.Rules.{rules}
 use borrow.Author.Tests.{eq-eqb, ne_eqb}
 use lib.Dec.{eqb}
 use mathlib.Core.Bool.{Bool, ◌&&◌, ◌||◌}
@@ -12,7 +11,7 @@ use Rattle.hall.proofs.beside.touched_by.Goals as goal
 use Rattle.hall.proofs.beside.touched_by.Goals.{Start}
 
 -- what a record of another kind would touch
-abbrev by : tie.Start → ℕ → ℕ
+abbrev by : Start → ℕ → ℕ
 by s k = touched s.args.i k s.args.d.fields.sender.0 s.args.d.place.0 s.args.count
 
 pub returns-then-kind-eq-CAST_NOW : goal.returns-then-kind-eq-CAST_NOW

@@ -1,10 +1,9 @@
 -- Some table holds another block: none of the rows passed does. The measure is what is left of them. Assumes nothing.
-use Prim.Native.Nat.{ℕ, ◌-◌, ◌≤◌}
+use Prim.Native.Nat.{ℕ}
 use Rattle.accord.specs.Rulings.{any_below}
 use Rattle.hall.proofs.Rows.{any-more, any-yes, part-row}
-use Rattle.hall.specs.Book.{book_rows, clash_in, row_at, row_other}
+use Rattle.hall.specs.Book.{book_rows, clash_in, row_other}
 use lib.ListN.{length-take, length-drop}
-use mathlib.Core.Bool.{Bool, false}
 use mathlib.Core.List.{List}
 use mathlib.Core.Path.{◌≡◌, refl, sym, ap, ◌∙◌}
 use native.Mathlib.Omega.{arith}

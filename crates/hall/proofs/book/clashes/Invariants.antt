@@ -1,13 +1,10 @@
 -- Some table holds another block: none of the rows passed does. The measure is what is left of them. Assumes nothing.
 use Prim.Native.Nat.{ℕ, ◌-◌, ◌≤◌}
 use Rattle.accord.specs.Rulings.{any_below}
-use Rattle.hall.proofs.Rows.{any-more, any-yes, part-row}
-use Rattle.hall.specs.Book.{book_rows, clash_in, row_at, row_other}
-use lib.ListN.{length-take, length-drop}
+use Rattle.hall.specs.Book.{book_rows, row_at, row_other}
 use mathlib.Core.Bool.{Bool, false}
 use mathlib.Core.List.{List}
-use mathlib.Core.Path.{◌≡◌, refl, sym, ap, ◌∙◌}
-use native.Mathlib.Omega.{arith}
+use mathlib.Core.Path.{◌≡◌}
 use Rattle.hall.proofs.book.clashes.Given as goal
 
 abbrev pub ok : List ℕ → List ℕ → ℕ → Bool

@@ -1,15 +1,6 @@
 -- The rows of a gateway's blocks: those below the place that is left are written. The measure is what is left of the count. Assumes nothing.
-use Prim.Native.Nat.{ℕ, suc, ◌+◌, ◌-◌, ◌≤◌, ◌<◌}
-use Rattle.hall.proofs.Filling.{Entered, block-long, entered_all, entered-more, entered-none}
-use Rattle.hall.proofs.Lengths.{table-whole}
-use Rattle.hall.proofs.Rows.{parent-low, place-written}
-use Rattle.hall.specs.Book.{Whole}
-use Rattle.table.proofs.Laws.{length-unmap}
-use Rattle.table.specs.Rows.{capacity, at, rows}
-use borrow.Author.Rules.{rules}
-use lib.ListN.{length}
-use mathlib.Core.Path.{◌≡◌, sym, ◌∙◌}
-use native.Mathlib.Omega.{arith}
+use Prim.Native.Nat.{◌+◌, ◌-◌, ◌≤◌}
+use Rattle.hall.proofs.Filling.{Entered}
 use Rattle.hall.proofs.book.enter_all.Given as goal
 
 abbrev pub invariant-loop-p : goal.invariant-loop-p

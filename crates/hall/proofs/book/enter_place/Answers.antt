@@ -1,7 +1,6 @@
 -- The row of a place: its block, and its parent's name. Assumes nothing.
 use Prim.Native.Nat.{suc, ◌<◌}
 use Rattle.hall.proofs.Rows.{parent-low, place-written}
-use Rattle.table.proofs.Laws.{length-unmap}
 use Rattle.table.specs.Rows.{capacity}
 use borrow.Author.Rules.{rules}
 use lib.ListN.{length}

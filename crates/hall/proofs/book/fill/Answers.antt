@@ -1,15 +1,15 @@
 -- The book filled: the gateways passed have their rows, the others none yet. The measure is how many are left. Assumes nothing.
-use Prim.Native.Nat.{ℕ, ◌+◌, ◌-◌, ◌≤◌}
-use Rattle.accord.specs.Head.{most_gateways, honest_in}
+use Prim.Native.Nat.{ℕ, ◌+◌}
+use Rattle.accord.specs.Head.{honest_in}
 use Rattle.hall.proofs.Filling.{Filled, filled-all, filled_more, filled_none, filled-skip, seat-low}
 use Rattle.hall.proofs.Lengths.{hall-whole}
 use Rattle.hall.specs.Book.{book_bytes}
 use lib.ListN.{length, length-replicate}
 use mathlib.Core.List.{List}
-use mathlib.Core.Logic.{⊎_elim}
 use mathlib.Core.Path.{sym, ap, subst, ◌∙◌}
 use native.Mathlib.Omega.{arith}
 use Rattle.hall.proofs.book.fill.Goals as goal
+use Rattle.hall.proofs.book.fill.Goals.{then-h-i, else-h-i}
 
 pub loop-i-init : goal.loop-i-init
 loop-i-init c = (omega arith, filled_none _ _ c.requires.0)
@@ -27,8 +27,10 @@ loop-i-preserved c =
     let low = c.loop-i-test.true in
     let next : List ℕ → Type 0 = Filled c.args.h (c.loop-i.i + 1) in (
       omega arith,
-      ⊎_elim (λ w. subst next (sym w.6) (filled_more kept c.loop-i.invariant.1 low w.0.taken _ w.3.ensures))
-          (λ w. subst next (sym w.1) (filled-skip c.loop-i.invariant.1 low w.0.left)) c.if-h-i.branch,
+      elim c.if-h-i.branch [
+        | then-h-i w ↦ subst next (sym w.book-is) (filled_more kept c.loop-i.invariant.1 low w.if-h-i.true _ w.enter_all.ensures)
+        | else-h-i w ↦ subst next (sym w.book-is) (filled-skip c.loop-i.invariant.1 low w.if-h-i.false)
+      ],
     )
 
 pub shape_of-book : goal.shape_of-book

@@ -1,14 +1,7 @@
 -- The book filled: the gateways passed have their rows, the others none yet. The measure is how many are left. Assumes nothing.
-use Prim.Native.Nat.{ℕ, ◌+◌, ◌-◌, ◌≤◌}
-use Rattle.accord.specs.Head.{most_gateways, honest_in}
-use Rattle.hall.proofs.Filling.{Filled, filled-all, filled_more, filled_none, filled-skip, seat-low}
-use Rattle.hall.proofs.Lengths.{hall-whole}
-use Rattle.hall.specs.Book.{book_bytes}
-use lib.ListN.{length, length-replicate}
-use mathlib.Core.List.{List}
-use mathlib.Core.Logic.{⊎_elim}
-use mathlib.Core.Path.{sym, ap, subst, ◌∙◌}
-use native.Mathlib.Omega.{arith}
+use Prim.Native.Nat.{◌-◌, ◌≤◌}
+use Rattle.accord.specs.Head.{most_gateways}
+use Rattle.hall.proofs.Filling.{Filled}
 use Rattle.hall.proofs.book.fill.Given as goal
 
 abbrev pub invariant-loop-i : goal.invariant-loop-i

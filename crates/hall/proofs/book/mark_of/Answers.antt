@@ -1,6 +1,5 @@
 -- The mark of an own vote. Assumes nothing.
 use Rattle.table.proofs.Laws.{pick_yes, pick_no}
-use borrow.Author.Rules.{rules}
 use mathlib.Core.Path.{sym}
 use Rattle.hall.proofs.book.mark_of.Goals as goal
 

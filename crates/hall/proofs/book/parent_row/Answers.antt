@@ -1,6 +1,5 @@
 -- The row of a parent: one that is lower, else the genesis's. Assumes nothing.
 use Rattle.table.proofs.Laws.{pick_yes, pick_no}
-use borrow.Author.Rules.{rules}
 use borrow.Author.Tests.{lt-ltb, le-ltb}
 use mathlib.Core.Path.{sym}
 use Rattle.hall.proofs.book.parent_row.Goals as goal

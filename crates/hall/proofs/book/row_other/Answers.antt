@@ -1,7 +1,5 @@
 -- A row holds another block: its kind, its name and, from the epoch on, a byte that differs. Assumes nothing.
 use Rattle.hall.proofs.Rows.{other-no-byte, other-no-block, other-no-name, other-rest}
-use borrow.Author.Rules.{rules}
-use borrow.Author.Tests.{not-false, not-true}
 use mathlib.Core.Bool.{not}
 use mathlib.Core.Path.{sym, ap, ◌∙◌}
 use Rattle.hall.proofs.book.row_other.Goals as goal

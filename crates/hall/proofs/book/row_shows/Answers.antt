@@ -1,6 +1,5 @@
 -- A row shows a vote for a name: its mark, its kind and its name. Assumes nothing.
 use Rattle.hall.proofs.Rows.{shows-name, shows-no-block, shows-no-vote}
-use borrow.Author.Rules.{rules}
 use mathlib.Core.Path.{sym, ◌∙◌}
 use Rattle.hall.proofs.book.row_shows.Goals as goal
 

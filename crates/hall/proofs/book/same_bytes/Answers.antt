@@ -1,9 +1,8 @@
 -- Two stretches are the same: as long, and no byte passed differs. The measure is what is left of them. Assumes nothing.
-use Prim.Native.Nat.{ℕ, ◌≤◌, ◌<◌, ◌-◌}
 use Rattle.table.proofs.Laws.{same-all, same_differs, same_false}
 use borrow.Author.Count.{below_more}
-use lib.ListN.{length, get_or}
-use mathlib.Core.Path.{◌≡◌, refl, sym, ap}
+use lib.ListN.{length}
+use mathlib.Core.Path.{refl, sym, ap}
 use native.Mathlib.Omega.{arith}
 use Rattle.hall.proofs.book.same_bytes.Goals as goal
 

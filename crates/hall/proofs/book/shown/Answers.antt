@@ -1,11 +1,10 @@
 -- A gateway shows its own vote: none of the rows passed does. The measure is what is left of them. Assumes nothing.
-use Prim.Native.Nat.{ℕ, ◌+◌, ◌*◌, ◌-◌, ◌≤◌}
+use Prim.Native.Nat.{ℕ, ◌+◌, ◌*◌}
 use Rattle.accord.specs.Rulings.{any_below}
 use Rattle.hall.proofs.Rows.{any-more, any-yes, part-row}
-use Rattle.hall.specs.Book.{row_at, row_shows, shown_in}
+use Rattle.hall.specs.Book.{row_shows, shown_in}
 use Rattle.table.specs.Rows.{capacity}
 use lib.ListN.{length-take, length-drop}
-use mathlib.Core.Bool.{Bool, false}
 use mathlib.Core.List.{List}
 use mathlib.Core.Path.{◌≡◌, refl, sym, ap, ◌∙◌}
 use native.Mathlib.Omega.{arith}

@@ -1,16 +1,11 @@
 -- Every honest list and those before it: so far of any two one begins the other. The measure is what is left of them. Assumes nothing.
-use Prim.Native.Nat.{ℕ, ◌≤◌, ◌-◌, zero-le}
+use Prim.Native.Nat.{ℕ, ◌≤◌, ◌-◌}
 use Rattle.accord.specs.Head.{most_gateways}
-use Rattle.hall.proofs.Agreeing.{begun-none}
-use Rattle.hall.proofs.Parts.{below_fails, below_next}
-use Rattle.hall.specs.Lists.{agree_in, begun}
+use Rattle.hall.specs.Lists.{begun}
 use Rattle.table.specs.Scan.{all_below}
-use borrow.Author.Tests.{not-false}
 use mathlib.Core.Bool.{Bool, true}
 use mathlib.Core.List.{List}
-use mathlib.Core.Logic.{⊎_elim}
-use mathlib.Core.Path.{◌≡◌, ◌∙◌, ap, refl, sym}
-use native.Mathlib.Omega.{arith}
+use mathlib.Core.Path.{◌≡◌}
 use Rattle.hall.proofs.chains.agree.Given as goal
 
 abbrev pub ok : List ℕ → List ℕ → List Bool → ℕ → Bool

@@ -1,18 +1,16 @@
 -- An honest list and each honest one before it: so far of any two one begins the other. The measure is what is left of them. Assumes nothing.
-use Prim.Native.Nat.{ℕ, ◌+◌, ◌*◌, ◌≤◌, ◌-◌, zero-le}
+use Prim.Native.Nat.{ℕ, ◌+◌, ◌*◌, ◌≤◌, zero-le}
 use Rattle.hall.proofs.Agreeing.{begun-not, begun-read}
 use Rattle.hall.proofs.Parts.{below_fails, below_next}
 use Rattle.hall.specs.Lists.{begun, lists_bytes}
 use Rattle.pala.specs.Run.{full_list}
 use Rattle.table.specs.Scan.{all_below}
-use borrow.Author.Rules.{rules}
-use borrow.Author.Tests.{not-false}
 use lib.ListN.{get_or}
-use mathlib.Core.Bool.{Bool, true, false, ◌&&◌, and-false}
-use mathlib.Core.Logic.{⊎_elim}
+use mathlib.Core.Bool.{not, Bool, true, false, ◌&&◌, and-false}
 use mathlib.Core.Path.{◌≡◌, ◌∙◌, ap, refl, sym}
 use native.Mathlib.Omega.{arith}
 use Rattle.hall.proofs.chains.agrees_before.Goals as goal
+use Rattle.hall.proofs.chains.agrees_before.Goals.{then-honest-j+else-not-one_begins, else-honest-j}
 use Rattle.hall.proofs.chains.agrees_before.Goals.{After-names_bytes, After-names_bytes-then-honest-j}
 
 -- the list lies in its room
@@ -69,17 +67,19 @@ pub returns-then-not-one_begins : goal.returns-then-not-one_begins
 returns-then-not-one_begins c =
     let a = c.args in
     let read = begun-read a.lists.now a.counts a.honest a.i c.loop-j.j c.names_bytes.ensures c.names_bytes-then-honest-j.ensures c.requires.2 c.if-honest-j.true c.one_begins.ensures in
-    below_fails a.i (begun a.lists.now a.counts a.honest a.i) c.loop-j.j c.one_begins.result c.loop-j-test.true read c.if-not-one_begins.true
+    below_fails a.i (begun a.lists.now a.counts a.honest a.i) c.loop-j.j c.one_begins.result c.loop-j-test.true read (ap not c.if-not-one_begins.true)
 
 pub loop-j-preserved : goal.loop-j-preserved
 loop-j-preserved c =
     let a = c.args in
     let j = c.loop-j.j in
     let here : begun a.lists.now a.counts a.honest a.i j ≡ true =
-    ⊎_elim
-    (λ x. sym (begun-read a.lists.now a.counts a.honest a.i j c.names_bytes.ensures x.1.ensures c.requires.2 x.0.taken x.4.ensures) ∙ not-false _ x.5.left)
-    (λ x. begun-not a.lists.now a.counts a.honest a.i j (ap (λ (t : Bool). get_or a.honest a.i false && t) x.left ∙ and-false (get_or a.honest a.i false)))
-    c.if-honest-j.branch in
+    elim c.if-honest-j.branch [
+      | then-honest-j+else-not-one_begins w ↦
+          sym (begun-read a.lists.now a.counts a.honest a.i j c.names_bytes.ensures w.names_bytes-then-honest-j.ensures c.requires.2 w.if-honest-j.true w.one_begins.ensures) ∙ w.if-not-one_begins.false
+      | else-honest-j w ↦
+          begun-not a.lists.now a.counts a.honest a.i j (ap (λ (t : Bool). get_or a.honest a.i false && t) w.if-honest-j.false ∙ and-false (get_or a.honest a.i false))
+    ] in
     (omega arith, below_next j (begun a.lists.now a.counts a.honest a.i) c.loop-j.invariant.1 here)
 
 pub returns : goal.returns

@@ -1,17 +1,9 @@
 -- An honest list and each honest one before it: so far of any two one begins the other. The measure is what is left of them. Assumes nothing.
-use Prim.Native.Nat.{ℕ, ◌+◌, ◌*◌, ◌≤◌, ◌-◌, zero-le}
-use Rattle.hall.proofs.Agreeing.{begun-not, begun-read}
-use Rattle.hall.proofs.Parts.{below_fails, below_next}
-use Rattle.hall.specs.Lists.{begun, lists_bytes}
-use Rattle.pala.specs.Run.{full_list}
+use Prim.Native.Nat.{◌≤◌, ◌-◌}
+use Rattle.hall.specs.Lists.{begun}
 use Rattle.table.specs.Scan.{all_below}
-use borrow.Author.Rules.{rules}
-use borrow.Author.Tests.{not-false}
-use lib.ListN.{get_or}
-use mathlib.Core.Bool.{Bool, true, false, ◌&&◌, and-false}
-use mathlib.Core.Logic.{⊎_elim}
-use mathlib.Core.Path.{◌≡◌, ◌∙◌, ap, refl, sym}
-use native.Mathlib.Omega.{arith}
+use mathlib.Core.Bool.{true}
+use mathlib.Core.Path.{◌≡◌}
 use Rattle.hall.proofs.chains.agrees_before.Given as goal
 
 abbrev pub invariant-loop-j : goal.invariant-loop-j

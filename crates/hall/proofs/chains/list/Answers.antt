@@ -2,7 +2,6 @@
 use Prim.Native.Nat.{◌+◌, ◌*◌, ◌-◌}
 use Rattle.hall.proofs.Listing.{list_put}
 use Rattle.pala.specs.Run.{full_list}
-use borrow.Author.Rules.{rules}
 use native.Mathlib.Omega.{arith}
 use Rattle.hall.proofs.chains.list.Goals as goal
 
@@ -10,4 +9,4 @@ pub returns : goal.returns
 returns c =
     let a = c.args in
     let from = full_list * a.i in
-    list_put a.s a.lists.now from (from + full_list - from) _ _ _ c.requires.2 (omega arith) (omega arith) c.final_list_shaped-listing.ensures c.final_list_shaped-listing.auto.1.0
+    list_put a.s a.lists.now from (from + full_list - from) _ _ _ c.requires.2 (omega arith) (omega arith) c.final_list_shaped-listing.ensures c.final_list_shaped-listing.auto.list

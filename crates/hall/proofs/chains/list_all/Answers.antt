@@ -1,15 +1,15 @@
 -- The lists of the honest gateways: those passed stand there. The measure is what is left of them. Assumes nothing.
-use Prim.Native.Nat.{◌≤◌, ◌<◌, ◌-◌}
+use Prim.Native.Nat.{◌<◌}
 use Rattle.accord.specs.Head.{gateway, honest_in, most_gateways}
-use Rattle.hall.proofs.Agreeing.{ListedTo, listed-all, listed-as, listed_more, listed-none, listed-silent}
+use Rattle.hall.proofs.Agreeing.{listed-all, listed-as, listed_more, listed-none, listed-silent}
 use Rattle.hall.proofs.Seated.{gateway-read}
 use Rattle.pala.specs.Shape.{well_shaped}
 use Rattle.table.specs.declared.State.{State}
 use lib.ListN.{get_or}
-use mathlib.Core.Logic.{⊎_elim}
 use mathlib.Core.Path.{◌≡◌, ◌∙◌, ap, sym}
 use native.Mathlib.Omega.{arith}
 use Rattle.hall.proofs.chains.list_all.Goals as goal
+use Rattle.hall.proofs.chains.list_all.Goals.{then-h-i, else-h-i}
 use Rattle.hall.proofs.chains.list_all.Goals.{After-t8-1, Then-h-i}
 
 -- what a turn of an honest number reads is that gateway's state
@@ -36,10 +36,10 @@ loop-i-preserved c =
     let w = c.loop-i.invariant.1 in
     let low : c.loop-i.i < most_gateways = omega arith in (
       omega arith,
-      ⊎_elim
-          (λ x. listed-as (x.6 ∙ x.3.ensures.2) x.7 (listed_more w _ _ ((shown (record { before = (goal.at.loop-i-preserved c).After-t8-1; if1 = x.0 })).1 _) low x.3.ensures.1 x.3.ensures.3))
-          (λ x. listed-as x.1 x.2 (listed-silent w x.0.left))
-          c.if-h-i.branch,
+      elim c.if-h-i.branch [
+        | then-h-i x ↦ listed-as (x.lists-is ∙ x.list-count.ensures.2) x.counts-is (listed_more w _ _ (gateway-read c.requires.1 c.loop-i.i _ (c.requires.1.low c.loop-i.i x.if-h-i.true)) low x.list-count.ensures.1 x.list-count.ensures.3)
+        | else-h-i x ↦ listed-as x.lists-is x.counts-is (listed-silent w x.if-h-i.false)
+      ],
     )
 
 pub shape_of-lists : goal.shape_of-lists

@@ -1,22 +1,20 @@
 -- The bytes that both lists have are the same: so far each was. The measure is what is left of them. Assumes nothing.
-use Prim.Native.Nat.{ℕ, ◌≤◌, ◌-◌, min, zero-le}
+use Prim.Native.Nat.{min, zero-le}
 use Rattle.hall.proofs.Agreeing.{one-begins-is}
 use Rattle.table.proofs.Laws.{all_below-step}
 use Rattle.table.specs.Scan.{all_below}
-use lib.Dec.{eqb}
-use lib.ListN.{get_or, length}
+use lib.ListN.{length}
 use mathlib.Core.Bool.{Bool, ◌&&◌}
-use mathlib.Core.List.{List}
-use mathlib.Core.Logic.{⊎_elim}
 use mathlib.Core.Path.{◌≡◌, ◌∙◌, ap, refl, sym}
 use native.Mathlib.Omega.{arith}
 use Rattle.hall.proofs.chains.one_begins.Goals as goal
+use Rattle.hall.proofs.chains.one_begins.Goals.{then-b-end, else-b-end}
 use Rattle.hall.proofs.chains.one_begins.Goals.{Joined-b-end}
 use Rattle.hall.proofs.chains.one_begins.Invariants.{ok}
 
 -- the loop's end is that of the shorter list
 ends : (c : Joined-b-end) → c.if-b-end.end ≡ min (length c.args.a.now) (length c.args.b.now)
-ends c = ⊎_elim (λ x. omega (arith, x.0.taken, x.1)) (λ x. omega (arith, x.0.left, x.1)) c.if-b-end.branch
+ends c = elim c.if-b-end.branch [ then-b-end w ↦ omega (arith, w.if-b-end.true, w.end-is) | else-b-end w ↦ omega (arith, w.if-b-end.false, w.end-is) ]
 
 pub loop-k-init : goal.loop-k-init
 unfolding all_below

@@ -1,15 +1,11 @@
 -- The bytes that both lists have are the same: so far each was. The measure is what is left of them. Assumes nothing.
-use Prim.Native.Nat.{ℕ, ◌≤◌, ◌-◌, min, zero-le}
-use Rattle.hall.proofs.Agreeing.{one-begins-is}
-use Rattle.table.proofs.Laws.{all_below-step}
+use Prim.Native.Nat.{ℕ, ◌≤◌, ◌-◌}
 use Rattle.table.specs.Scan.{all_below}
 use lib.Dec.{eqb}
-use lib.ListN.{get_or, length}
-use mathlib.Core.Bool.{Bool, ◌&&◌}
+use lib.ListN.{get_or}
+use mathlib.Core.Bool.{Bool}
 use mathlib.Core.List.{List}
-use mathlib.Core.Logic.{⊎_elim}
-use mathlib.Core.Path.{◌≡◌, ◌∙◌, ap, refl, sym}
-use native.Mathlib.Omega.{arith}
+use mathlib.Core.Path.{◌≡◌}
 use Rattle.hall.proofs.chains.one_begins.Given as goal
 
 abbrev pub ok : List ℕ → List ℕ → ℕ → Bool

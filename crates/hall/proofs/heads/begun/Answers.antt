@@ -1,6 +1,5 @@
 -- A gateway started fresh: what a start gives. Assumes nothing.
 use Rattle.pala.specs.Step.{Started}
-use borrow.Author.Rules.{rules}
 use mathlib.Core.Path.{ap}
 use Rattle.hall.proofs.heads.begun.Goals as goal
 

@@ -1,7 +1,6 @@
 -- The set of honest nodes: each number by its bit. Assumes nothing.
 use Prim.Native.Nat.{◌/◌, ◌%◌, ◌^◌}
 use Rattle.hall.proofs.Fresh.{eight}
-use borrow.Author.Rules.{rules}
 use lib.Dec.{eqb}
 use Rattle.hall.proofs.heads.honest_of.Goals as goal
 

@@ -4,8 +4,6 @@ use Rattle.accord.specs.declared.Hall.{Hall}
 use Rattle.hall.proofs.Fresh.{bits_test, bits-read, hall-read, opened-bits, opened-cut, opened-fresh, opened-many, opened-none}
 use Rattle.hall.specs.declared.heads.Opening.{Opening}
 use Rattle.table.specs.declared.Answer.{Answer}
-use borrow.Author.Rules.{rules}
-use borrow.Author.Tests.{not-false, not-true}
 use mathlib.Core.Path.{◌≡◌, ◌∙◌, ap, sym}
 use native.Mathlib.Omega.{arith}
 use Rattle.hall.proofs.heads.open.Goals as goal

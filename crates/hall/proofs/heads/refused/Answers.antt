@@ -1,6 +1,5 @@
 -- A refusal: eight all-zero states, nobody honest, no node. Assumes nothing.
 use Rattle.accord.specs.Head.{no_hall}
-use borrow.Author.Rules.{rules}
 use mathlib.Core.Path.{refl}
 use Rattle.hall.proofs.heads.refused.Goals as goal
 

@@ -1,7 +1,6 @@
 -- The gateways, each under its own number. Assumes nothing.
 use Rattle.hall.proofs.Fresh.{eight}
 use Rattle.pala.specs.Step.{start}
-use borrow.Author.Rules.{rules}
 use Rattle.hall.proofs.heads.started.Goals as goal
 
 pub returns : goal.returns

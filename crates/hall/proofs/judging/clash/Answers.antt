@@ -1,7 +1,6 @@
 -- The row of such a block, and the book searched for another.
 use Rattle.hall.proofs.Judged.{clash-row}
 use Rattle.pala.specs.Record.{record_bytes}
-use borrow.Author.Rules.{rules}
 use lib.ListN.{replicate}
 use mathlib.Core.Path.{refl}
 use Rattle.hall.proofs.judging.clash.Goals as goal

@@ -2,7 +2,6 @@
 use Rattle.hall.proofs.Verdicts.{flag-below}
 use Rattle.hall.specs.Book.{shown_in}
 use borrow.Author.Rules.{rules}
-use borrow.Author.Tests.{not-true, not-false}
 use lib.ListN.{get_or}
 use mathlib.Core.Bool.{Bool, true, false, not, ◌&&◌}
 use mathlib.Core.Path.{◌≡◌, ap, sym, ◌∙◌}

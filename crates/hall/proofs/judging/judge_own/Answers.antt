@@ -11,16 +11,13 @@ use Rattle.hall.proofs.judging.judge_own.Goals as goal
 use Rattle.hall.proofs.judging.judge_own.Goals.{After-clash, Start}
 
 -- an epoch has 32 bits
-fits : (s : tie.Start) → s.args.s.local.0 < 4294967296
-fits s = search rules
+fits : (c : Start) → c.args.s.local.0 < 4294967296
+fits c = search rules
 
 -- what was looked for
-abbrev start : tie.After-clash → tie.Start
-start c = c.before.before.before.before.before.before.before.before
-
-looked : (c : After-clash) → c.clash.result ≡ clashes_own (start c).args.book.now (start c).args.s (start c).args.d.fields (start c).args.told
+looked : (c : After-clash) → c.clash.result ≡ clashes_own c.args.book.now c.args.s c.args.d.fields c.args.told
 looked c =
-    let a = (start c).args in
+    let a = c.args in
     c.clash.ensures
     ∙ ap (λ (b : Block). clashed_in a.book.now a.d.fields a.s.local.0 b.name) (c.at-b.ensures ∙ ap (λ (x : Top). at (rows a.s) x.place.0) c.freshest-top.ensures)
 
@@ -31,10 +28,10 @@ returns-then-told-eq-RECEIVER c =
 
 pub returns-then-clash : goal.returns-then-clash
 returns-then-clash c =
-    let a = (start (goal.at.returns-then-clash c).After-clash).args in
-    (own-clashes a.book.now a.s a.d.fields a.told c.if-told-eq-RECEIVER.false (sym (looked (goal.at.returns-then-clash c).After-clash) ∙ c.if-clash.true), fits (start (goal.at.returns-then-clash c).After-clash))
+    let a = c.args in
+    (own-clashes a.book.now a.s a.d.fields a.told c.if-told-eq-RECEIVER.false (sym (looked (goal.at.returns-then-clash c).After-clash) ∙ c.if-clash.true), fits (goal.at.returns-then-clash c).Start)
 
 pub returns : goal.returns
 returns c =
-    let a = (start (goal.at.returns c).After-clash).args in
-    (own-told a.book.now a.s a.d.fields a.told c.if-told-eq-RECEIVER.false (sym (looked (goal.at.returns c).After-clash) ∙ c.if-clash.false), fits (start (goal.at.returns c).After-clash))
+    let a = c.args in
+    (own-told a.book.now a.s a.d.fields a.told c.if-told-eq-RECEIVER.false (sym (looked (goal.at.returns c).After-clash) ∙ c.if-clash.false), fits (goal.at.returns c).Start)

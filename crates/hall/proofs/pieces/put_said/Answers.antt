@@ -3,7 +3,6 @@ use Prim.Native.Nat.{ℕ}
 use Rattle.accord.specs.Text.{yes_word, no_word}
 use Rattle.lines.specs.Text.{worded_at}
 use Rattle.table.proofs.Laws.{pick_yes, pick_no}
-use borrow.Author.Rules.{rules}
 use mathlib.Core.List.{List}
 use mathlib.Core.Path.{ap, sym, ◌∙◌}
 use Rattle.hall.proofs.pieces.put_said.Goals as goal

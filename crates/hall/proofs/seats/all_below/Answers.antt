@@ -1,5 +1,5 @@
 -- No number at or above n is honest: so far none was. The measure is what is left of the set. Assumes nothing.
-use Prim.Native.Nat.{ℕ, ◌≤◌, ◌-◌, zero-le}
+use Prim.Native.Nat.{zero-le}
 use Rattle.accord.specs.Head.{most_gateways}
 use Rattle.hall.proofs.Parts.{below_fails, below_next}
 use Rattle.pala.proofs.Tests.{or_l, or_r}
@@ -8,11 +8,10 @@ use borrow.Author.Tests.{le-ltb, lt-ltb}
 use lib.Dec.{ltb}
 use lib.ListN.{get_or}
 use mathlib.Core.Bool.{Bool, true, false, not, ◌||◌}
-use mathlib.Core.List.{List}
-use mathlib.Core.Logic.{⊎_elim}
 use mathlib.Core.Path.{◌≡◌, ◌∙◌, ap, ap₂, refl, sym}
 use native.Mathlib.Omega.{arith}
 use Rattle.hall.proofs.seats.all_below.Goals as goal
+use Rattle.hall.proofs.seats.all_below.Goals.{then-n-i+else-honest-i, else-n-i}
 use Rattle.hall.proofs.seats.all_below.Invariants.{ok}
 
 pub loop-i-init : goal.loop-i-init
@@ -30,8 +29,10 @@ loop-i-preserved c =
     let a = c.args in
     let i = c.loop-i.i in
     let passes : ok a.n a.honest i ≡ true =
-    ⊎_elim (λ x. or_r (ltb i a.n) (not (get_or a.honest i false)) (ap not x.1.left))
-    (λ x. or_l (ltb i a.n) (not (get_or a.honest i false)) (lt-ltb i a.n x.left)) c.if-n-i.branch in
+    elim c.if-n-i.branch [
+      | then-n-i+else-honest-i w ↦ or_r (ltb i a.n) (not (get_or a.honest i false)) (ap not w.if-honest-i.false)
+      | else-n-i w ↦ or_l (ltb i a.n) (not (get_or a.honest i false)) (lt-ltb i a.n w.if-n-i.false)
+    ] in
     (omega arith, below_next i (ok a.n a.honest) c.loop-i.invariant.1 passes)
 
 pub returns : goal.returns

@@ -1,17 +1,12 @@
 -- No number at or above n is honest: so far none was. The measure is what is left of the set. Assumes nothing.
-use Prim.Native.Nat.{ℕ, ◌≤◌, ◌-◌, zero-le}
+use Prim.Native.Nat.{ℕ, ◌≤◌, ◌-◌}
 use Rattle.accord.specs.Head.{most_gateways}
-use Rattle.hall.proofs.Parts.{below_fails, below_next}
-use Rattle.pala.proofs.Tests.{or_l, or_r}
 use Rattle.table.specs.Scan.{all_below}
-use borrow.Author.Tests.{le-ltb, lt-ltb}
 use lib.Dec.{ltb}
 use lib.ListN.{get_or}
 use mathlib.Core.Bool.{Bool, true, false, not, ◌||◌}
 use mathlib.Core.List.{List}
-use mathlib.Core.Logic.{⊎_elim}
-use mathlib.Core.Path.{◌≡◌, ◌∙◌, ap, ap₂, refl, sym}
-use native.Mathlib.Omega.{arith}
+use mathlib.Core.Path.{◌≡◌}
 use Rattle.hall.proofs.seats.all_below.Given as goal
 
 abbrev pub ok : ℕ → List Bool → ℕ → Bool

@@ -1,16 +1,15 @@
 -- Every gateway's state is well shaped: so far each was, with its 65 rows. The measure is what is left of them. Assumes nothing.
-use Prim.Native.Nat.{ℕ, suc, ◌≤◌, ◌<◌, ◌-◌}
+use Prim.Native.Nat.{ℕ, suc, ◌<◌}
 use Rattle.accord.specs.Head.{gateway, most_gateways}
 use Rattle.hall.proofs.Parts.{below_fails}
 use Rattle.pala.specs.Shape.{well_shaped}
-use Rattle.table.proofs.Laws.{all_below-all, get_d_any, length-unmap}
+use Rattle.table.proofs.Laws.{all_below-all, get_d_any}
 use Rattle.table.specs.Rows.{capacity, all_zero}
 use Rattle.table.specs.declared.State.{State}
 use borrow.Author.Count.{below_more}
 use borrow.Author.Rules.{rules}
-use borrow.Author.Tests.{not-false}
 use lib.ListN.{length}
-use mathlib.Core.Bool.{true, false≢true}
+use mathlib.Core.Bool.{not, false≢true}
 use mathlib.Core.Path.{◌≡◌, ◌∙◌, ap, sym}
 use native.Mathlib.Omega.{arith}
 use Rattle.hall.proofs.seats.all_sound.Goals as goal
@@ -35,7 +34,7 @@ loop-i-init c = (omega arith, λ j l. absurd (omega arith))
 pub returns-then-not-sound : goal.returns-then-not-sound
 returns-then-not-sound c =
     let h = c.args.h in
-    (below_fails h.n (λ i. well_shaped (gateway h i)) c.loop-i.i c.sound.result (omega arith) (asked (goal.at.returns-then-not-sound c).After-sound).0 c.if-not-sound.true, λ e. absurd (false≢true e))
+    (below_fails h.n (λ i. well_shaped (gateway h i)) c.loop-i.i c.sound.result (omega arith) (asked (goal.at.returns-then-not-sound c).After-sound).0 (ap not c.if-not-sound.true), λ e. absurd (false≢true e))
 
 pub loop-i-preserved : goal.loop-i-preserved
 loop-i-preserved c =

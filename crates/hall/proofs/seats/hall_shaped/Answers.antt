@@ -1,9 +1,7 @@
 -- Each test of a hall's shape by itself; of a well-shaped one the memory tells the lengths. Assumes nothing.
 use Rattle.accord.specs.Head.{honest_in, most_gateways}
 use Rattle.hall.proofs.Seated.{hall-high, hall-kept, hall-many, hall-none, hall-sound, hall-unkept}
-use Rattle.table.proofs.Laws.{length-unmap}
 use borrow.Author.Rules.{rules}
-use borrow.Author.Tests.{not-false, not-true}
 use lib.ListN.{length}
 use mathlib.Core.Path.{◌≡◌, ◌∙◌, sym}
 use Rattle.hall.proofs.seats.hall_shaped.Goals as goal
@@ -28,5 +26,5 @@ returns-then-not-all_below c = hall-unkept _ (hall-high _ (sym c.all_below.ensur
 pub returns : goal.returns
 unfolding honest_in
 returns c =
-    let whole = c.All-sound.ensures.0 ∙ sym (hall-sound c.args.h c.if-n-lt1.false c.if-n-gt-MOST_GATEWAYS.false (sym c.all_below.ensures ∙ c.if-not-all_below.false)) in
-    (whole, λ t. hall-kept c.args.h (seats (goal.at.returns c).Start) (flags (goal.at.returns c).Start) (c.All-sound.ensures.1 t) (sym whole ∙ t))
+    let whole = c.all_sound.ensures.0 ∙ sym (hall-sound c.args.h c.if-n-lt1.false c.if-n-gt-MOST_GATEWAYS.false (sym c.all_below.ensures ∙ c.if-not-all_below.false)) in
+    (whole, λ t. hall-kept c.args.h (seats (goal.at.returns c).Start) (flags (goal.at.returns c).Start) (c.all_sound.ensures.1 t) (sym whole ∙ t))

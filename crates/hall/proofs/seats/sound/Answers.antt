@@ -1,6 +1,5 @@
 -- Is a state well shaped; it always has its 65 rows. Assumes nothing.
 use Prim.Native.Nat.{suc}
-use Rattle.table.proofs.Laws.{length-unmap}
 use Rattle.table.specs.Rows.{capacity}
 use borrow.Author.Rules.{rules}
 use lib.ListN.{length}
