@@ -10,7 +10,7 @@ use lib.ListN.{length, take, drop, take-append-drop}
 use lib.Seq.{take-append_seam}
 use Rattle.table.specs.Scan.{all_below}
 use Rattle.table.specs.Bytes.{same}
-use Rattle.table.proofs.Laws.{same_refl, same_true, all_below-at, all_below-all}
+use Rattle.table.proofs.Laws.{same_refl, same_true, all_below-at, all_below_all}
 use Rattle.pala.specs.Safety.{Begins, OneBegins}
 use Rattle.pala.proofs.Shapes as Shapes
 use Rattle.pala.proofs.Tests.{and_l, and_r, and_both, or_l, or_r, or_cases, either}
@@ -21,14 +21,14 @@ use Rattle.accord.specs.NeverNo.{YesMeans}
 
 -- ---- one begins the other
 
-begins-rest : (a b : List ℕ) → begins a b ≡ true → Begins a b
+begins_rest : (a b : List ℕ) → begins a b ≡ true → Begins a b
 unfolding begins
-begins-rest a b h =
+begins_rest a b h =
     (drop (length a) b, ap (λ (l : List ℕ). l ++ drop (length a) b) (same_true a (take (length a) b) h) ∙ take-append-drop (length a) b)
 
-rest-begins : (a b : List ℕ) → Begins a b → begins a b ≡ true
+rest_begins : (a b : List ℕ) → Begins a b → begins a b ≡ true
 unfolding begins
-rest-begins a b (rest, e) =
+rest_begins a b (rest, e) =
     ap (same a) (ap (take (length a)) (sym e) ∙ take-append_seam a rest) ∙ same_refl a
 
 one-begins : (a b : List ℕ) → one_begins a b ≡ true → OneBegins a b
@@ -36,13 +36,13 @@ unfolding one_begins
 one-begins a b h = go (or_cases (begins a b) (begins b a) h)
   where
     go : (begins a b ≡ true) ⊎ (begins b a ≡ true) → OneBegins a b
-    go (inl e) = inl (begins-rest a b e)
-    go (inr e) = inr (begins-rest b a e)
+    go (inl e) = inl (begins_rest a b e)
+    go (inr e) = inr (begins_rest b a e)
 
 begins-one : (a b : List ℕ) → OneBegins a b → one_begins a b ≡ true
 unfolding one_begins
-begins-one a b (inl w) = or_l (begins a b) (begins b a) (rest-begins a b w)
-begins-one a b (inr w) = or_r (begins a b) (begins b a) (rest-begins b a w)
+begins-one a b (inl w) = or_l (begins a b) (begins b a) (rest_begins a b w)
+begins-one a b (inr w) = or_r (begins a b) (begins b a) (rest_begins b a w)
 
 turned : {a b : List ℕ} → OneBegins a b → OneBegins b a
 turned (inl w) = inr w
@@ -58,34 +58,34 @@ module _ (h : Hall) where
   fits i j = one_begins (list_of h i) (list_of h j)
 
   -- a pair in which the second number is lower
-  agree-pair : agree h ≡ true → (i j : ℕ) → i < most_gateways → j < i → honest_in h i ≡ true → honest_in h j ≡ true → OneBegins (list_of h i) (list_of h j)
+  agree_pair : agree h ≡ true → (i j : ℕ) → i < most_gateways → j < i → honest_in h i ≡ true → honest_in h j ≡ true → OneBegins (list_of h i) (list_of h j)
   unfolding agree both fits
-  agree-pair e i j l m hi hj =
+  agree_pair e i j l m hi hj =
       one-begins (list_of h i) (list_of h j)
       (Shapes.or_r (not (both i j)) (fits i j)
       (all_below-at i (λ b. not (both i b) || fits i b)
       (all_below-at most_gateways (λ a. all_below a (λ b. not (both a b) || fits a b)) e i l) j m)
       (ap not (and_both (honest_in h i) (honest_in h j) hi hj)))
 
-  pub agree-any : agree h ≡ true
+  pub agree_any : agree h ≡ true
       → (i j : ℕ) → i < most_gateways → j < most_gateways → honest_in h i ≡ true → honest_in h j ≡ true → OneBegins (list_of h i) (list_of h j)
-  agree-any e i j l m hi hj =
+  agree_any e i j l m hi hj =
       elim (dec_lt j i) [
-        | yes b ↦ agree-pair e i j l b hi hj
+        | yes b ↦ agree_pair e i j l b hi hj
         | no b ↦
             elim (dec_lt i j) [
-              | yes a ↦ turned (agree-pair e j i m a hj hi)
+              | yes a ↦ turned (agree_pair e j i m a hj hi)
               | no a ↦ let z : i ≡ j = omega arith in subst (λ k. OneBegins (list_of h i) (list_of h k)) z (inl ([], append-nil (list_of h i)))
             ]
       ]
 
-  pub any-agree :
+  pub any_agree :
       ((i j : ℕ) → i < most_gateways → j < most_gateways → honest_in h i ≡ true → honest_in h j ≡ true → OneBegins (list_of h i) (list_of h j))
       → agree h ≡ true
   unfolding agree both fits
-  any-agree w =
-      all_below-all most_gateways (λ i. all_below i (λ j. not (both i j) || fits i j))
-      (λ i l. all_below-all i (λ j. not (both i j) || fits i j) (λ j m. go i j l m (either (both i j))))
+  any_agree w =
+      all_below_all most_gateways (λ i. all_below i (λ j. not (both i j) || fits i j))
+      (λ i l. all_below_all i (λ j. not (both i j) || fits i j) (λ j m. go i j l m (either (both i j))))
     where
       go : (i j : ℕ) → i < most_gateways → j < i → (both i j ≡ true) ⊎ (both i j ≡ false) → (not (both i j) || fits i j) ≡ true
       go i j l m (inl e) =
@@ -94,5 +94,5 @@ module _ (h : Hall) where
           (w i j l (omega arith) (and_l (honest_in h i) (honest_in h j) e) (and_r (honest_in h i) (honest_in h j) e)))
       go i j l m (inr e) = or_l (not (both i j)) (fits i j) (ap not e)
 
-pub yes-means : YesMeans
-yes-means h = (agree-any h, any-agree h)
+pub yes_means : YesMeans
+yes_means h = (agree_any h, any_agree h)

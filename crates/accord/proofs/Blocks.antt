@@ -15,10 +15,10 @@ use Rattle.pala.specs.Record.{epoch_of, name_of, parent_name_of, payload_of, is,
 use Rattle.pala.specs.Rules.{epoch_at, parent_of, freshest}
 use Rattle.pala.specs.Safety.{Held, Book, Fits}
 use Rattle.pala.specs.Steps.{settled}
-use Rattle.pala.proofs.Grown.{Grown, grown-parent, grown-epoch, size-append, at-append, at_last, rows_settled}
-use Rattle.pala.proofs.Keeps.{Proper, size-proper, rows-added}
-use Rattle.pala.proofs.Moves.{other-kind}
-use Rattle.pala.proofs.Places.{find-named, parent-below, parent_is}
+use Rattle.pala.proofs.Grown.{Grown, grown_parent, grown_epoch, size-append, at-append, at_last, rows_settled}
+use Rattle.pala.proofs.Keeps.{Proper, size_proper, rows_added}
+use Rattle.pala.proofs.Moves.{other_kind}
+use Rattle.pala.proofs.Places.{find-named, parent_below, parent_is}
 use Rattle.pala.proofs.Shapes.{block-parent, shaped-count, shaped-block}
 use Rattle.accord.specs.Rulings.{Content, content_of}
 
@@ -41,8 +41,8 @@ stands_one {c} {d} v w =
     (sym v.named ∙ w.named, λ i. record { epoch = e i; parent = f i })
 
 -- a block is the book's where the book has its entry
-pub stands-fits : {book : Book} {t : List Block} {p : ℕ} {x : List ℕ} {c : Entry} → Stands t p x c → book x ≡ c → Fits book t p
-stands-fits {book} v e =
+pub stands_fits : {book : Book} {t : List Block} {p : ℕ} {x : List ℕ} {c : Entry} → Stands t p x c → book x ≡ c → Fits book t p
+stands_fits {book} v e =
     record {
       epoch = v.epoch ∙ ap (λ (z : Entry). z.epoch) (sym e) ∙ ap (λ y. (book y).epoch) (sym v.named);
       parent = v.parent ∙ ap (λ (z : Entry). z.parent) (sym e) ∙ ap (λ y. (book y).parent) (sym v.named);
@@ -53,23 +53,23 @@ stands-fits {book} v e =
 module _ {t u : List Block} (g : Grown t u) (p : ℕ) (h : Held t p) where
   parent-name : (at u (parent_of u p)).name ≡ (at t (parent_of t p)).name
   parent-name =
-      ap (λ q. (at u q).name) (grown-parent g p h.1) ∙ g.name (parent_of t p) (omega (arith, parent-below t p h.0))
+      ap (λ q. (at u q).name) (grown_parent g p h.1) ∙ g.name (parent_of t p) (omega (arith, parent_below t p h.0))
 
-  pub grown-stands : {x : List ℕ} {c : Entry} → Stands t p x c → Stands u p x c
-  grown-stands v =
+  pub grown_stands : {x : List ℕ} {c : Entry} → Stands t p x c → Stands u p x c
+  grown_stands v =
       record {
         held = (h.0, omega (arith, g.longer));
         named = g.name p h.1 ∙ v.named;
-        epoch = grown-epoch g p h.1 ∙ v.epoch;
+        epoch = grown_epoch g p h.1 ∙ v.epoch;
         parent = parent-name ∙ v.parent;
       }
 
-  pub grown-stood : {x : List ℕ} {c : Entry} → Stands u p x c → Stands t p x c
-  grown-stood v =
+  pub grown_stood : {x : List ℕ} {c : Entry} → Stands u p x c → Stands t p x c
+  grown_stood v =
       record {
         held = h;
         named = sym (g.name p h.1) ∙ v.named;
-        epoch = sym (grown-epoch g p h.1) ∙ v.epoch;
+        epoch = sym (grown_epoch g p h.1) ∙ v.epoch;
         parent = sym parent-name ∙ v.parent;
       }
 
@@ -88,12 +88,12 @@ module _ (s : State) (r : List ℕ) where
   unfolding effect
   effect-heard k = pick_yes (is proposal_heard r) _ _ k
 
-  effect-now : is propose_now r ≡ true → effect s r ≡ propose_effect s r
+  effect_now : is propose_now r ≡ true → effect s r ≡ propose_effect s r
   unfolding effect
-  effect-now k =
-      pick_no (is proposal_heard r) _ _ (other-kind r propose_now proposal_heard k refl)
-      ∙ pick_no (is vote_heard r) _ _ (other-kind r propose_now vote_heard k refl)
-      ∙ pick_no (is clock_heard r) _ _ (other-kind r propose_now clock_heard k refl)
+  effect_now k =
+      pick_no (is proposal_heard r) _ _ (other_kind r propose_now proposal_heard k refl)
+      ∙ pick_no (is vote_heard r) _ _ (other_kind r propose_now vote_heard k refl)
+      ∙ pick_no (is clock_heard r) _ _ (other_kind r propose_now clock_heard k refl)
       ∙ pick_yes (is propose_now r) _ _ k
 
 -- a block added stands at the last place, on the row that it names as its parent
@@ -103,12 +103,12 @@ module _ {s u : State} (k : Proper s) (after : Proper (settled u)) (b : Block) (
   count-is = ap (λ (x : State). x.count) e
 
   place_is : u.count ≡ size (rows s)
-  place_is = count-is ∙ sym (size-proper k)
+  place_is = count-is ∙ sym (size_proper k)
 
   rows_are : rows u ≡ rows s ++ (b ∷ [])
   unfolding settled
   rows_are =
-      ap rows e ∙ rows-added s k.sized.blocks k.shaped b proposed (omega (arith, count-is, shaped-count (settled u) after.shaped))
+      ap rows e ∙ rows_added s k.sized.blocks k.shaped b proposed (omega (arith, count-is, shaped-count (settled u) after.shaped))
 
   row_is : at (rows u) u.count ≡ b
   row_is = ap (at (rows u)) place_is ∙ ap (λ (t : List Block). at t (size (rows s))) rows_are ∙ at_last (rows s) b
@@ -123,9 +123,9 @@ module _ {s u : State} (k : Proper s) (after : Proper (settled u)) (b : Block) (
   lower : b.parent.0 < size (rows s)
   lower = omega (arith, up_is, ap (λ (x : Block). x.parent.0) row_is, place_is)
 
-  pub added-stands : Stands (rows u) u.count b.name (record { epoch = b.epoch.0; parent = (at (rows s) b.parent.0).name })
+  pub added_stands : Stands (rows u) u.count b.name (record { epoch = b.epoch.0; parent = (at (rows s) b.parent.0).name })
   unfolding epoch_at
-  added-stands =
+  added_stands =
       record {
         held = (omega (arith, count-is), omega (arith, ap length rows_are, size-append (rows s) b, place_is));
         named = ap (λ (x : Block). x.name) row_is;
@@ -137,21 +137,21 @@ module _ {s u : State} (k : Proper s) (after : Proper (settled u)) (b : Block) (
       }
 
 -- a block that a record adds is what the record says
-pub new-stands : {s : State} → Proper s → (r : List ℕ) → Proper (settled (effect s r)) → Adds r
+pub new_stands : {s : State} → Proper s → (r : List ℕ) → Proper (settled (effect s r)) → Adds r
     → Stands (rows (effect s r)) (effect s r).count (name_of r) (entry (content_of s r))
 unfolding proposal_effect propose_effect new_block content_of
-new-stands {s} k r after (inl kind) =
+new_stands {s} k r after (inl kind) =
     subst (Stands (rows (effect s r)) (effect s r).count (name_of r))
     (ap (λ x. record { epoch = epoch_of r; parent = x }) (find-named (rows s) (parent_name_of r) (lower k after b s.proposed.0 (effect-heard s r kind)))
     ∙ ap entry (sym (pick_yes (is proposal_heard r) _ _ kind)))
-    (added-stands k after b s.proposed.0 (effect-heard s r kind))
+    (added_stands k after b s.proposed.0 (effect-heard s r kind))
   where
     b : Block
     b = new_block (name_of r) (epoch_of r) (find (rows s) (parent_name_of r)) (payload_of r)
-new-stands {s} k r after (inr kind) =
+new_stands {s} k r after (inr kind) =
     subst (Stands (rows (effect s r)) (effect s r).count (name_of r))
-    (ap entry (sym (pick_no (is proposal_heard r) _ _ (other-kind r propose_now proposal_heard kind refl))))
-    (added-stands k after b s.local.0 (effect-now s r kind))
+    (ap entry (sym (pick_no (is proposal_heard r) _ _ (other_kind r propose_now proposal_heard kind refl))))
+    (added_stands k after b s.local.0 (effect_now s r kind))
   where
     b : Block
     b = new_block (name_of r) s.local.0 (freshest s.n (rows s)) (payload_of r)

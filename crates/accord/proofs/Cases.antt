@@ -26,32 +26,32 @@ use Rattle.accord.specs.Text.{hall_line, lines_with, hall_lines, hall_text}
 -- ---- heads
 
 -- n of 1 and of 8, every bit below n, no bit at all, and records behind the head
-good-heads : map good_head ((1 ∷ 1 ∷ []) ∷ (8 ∷ 255 ∷ []) ∷ (4 ∷ 15 ∷ []) ∷ (4 ∷ 0 ∷ []) ∷ (3 ∷ 5 ∷ 9 ∷ 9 ∷ []) ∷ []) ≡ replicate 5 true
+good_heads : map good_head ((1 ∷ 1 ∷ []) ∷ (8 ∷ 255 ∷ []) ∷ (4 ∷ 15 ∷ []) ∷ (4 ∷ 0 ∷ []) ∷ (3 ∷ 5 ∷ 9 ∷ 9 ∷ []) ∷ []) ≡ replicate 5 true
 unfolding good_head
-good-heads = refl
+good_heads = refl
 
 -- "15 a head with another n, with a bit at or above n, or cut short"
-bad-heads :
+bad_heads :
     map good_head ((0 ∷ 0 ∷ []) ∷ (9 ∷ 0 ∷ []) ∷ (9 ∷ 1 ∷ []) ∷ (4 ∷ 16 ∷ []) ∷ (4 ∷ 128 ∷ []) ∷ (1 ∷ 2 ∷ []) ∷ (4 ∷ []) ∷ (1 ∷ []) ∷ [] ∷ []) ≡ replicate 9 false
 unfolding good_head
-bad-heads = refl
+bad_heads = refl
 
 -- ".. and nothing is played"
-heads-opened :
+heads_opened :
     (number (opened (4 ∷ 7 ∷ [])).answer ∷ number (opened (4 ∷ 16 ∷ [])).answer ∷ number (opened []).answer ∷ [] ≡ 0 ∷ 15 ∷ 15 ∷ [])
     × ((opened (4 ∷ 7 ∷ [])).hall ≡ fresh_hall (4 ∷ 7 ∷ []))
     × ((opened (9 ∷ 7 ∷ [])).hall ≡ no_hall)
 unfolding opened number
-heads-opened = (refl, refl, refl)
+heads_opened = (refl, refl, refl)
 
 -- "lowest bit for node 0"; each gateway is fresh under its own number
-fresh-halls :
+fresh_halls :
     (map (in_set (4 ∷ 6 ∷ [])) (0 ∷ 1 ∷ 2 ∷ 3 ∷ []) ≡ false ∷ true ∷ true ∷ false ∷ [])
     × (map (honest_in (fresh_hall (4 ∷ 6 ∷ []))) (0 ∷ 1 ∷ 2 ∷ 3 ∷ 8 ∷ []) ≡ false ∷ true ∷ true ∷ false ∷ false ∷ [])
     × (gateway (fresh_hall (4 ∷ 6 ∷ [])) 2 ≡ state_of 4 2 1 0 0 [] [] false)
     × (gateway (fresh_hall (4 ∷ 6 ∷ [])) 7 ≡ all_zero)
 unfolding in_set honest_in gateway fresh_hall table blank
-fresh-halls = (refl, refl, refl, refl)
+fresh_halls = (refl, refl, refl, refl)
 
 -- ---- halls by hand
 
@@ -71,7 +71,7 @@ unfolding table blank
 node i local held blocks = state_of 4 i local held 0 [] (blank ∷ blocks) false
 
 -- a well-shaped hall: no number at or above n is honest and every gateway's state, a faulty one's too, is well shaped
-shapes-told :
+shapes_told :
     map hall_shaped
     (fresh_hall (4 ∷ 7 ∷ [])
     ∷ fresh_hall (8 ∷ 255 ∷ [])
@@ -84,7 +84,7 @@ shapes-told :
     ∷ [])
     ≡ true ∷ true ∷ false ∷ false ∷ false ∷ false ∷ true ∷ false ∷ []
 unfolding hall_shaped fresh_hall no_hall desk start
-shapes-told = refl
+shapes_told = refl
 
 -- ---- refusals
 
@@ -107,7 +107,7 @@ unfolding verdict verdict_number four
 receivers = refl
 
 -- "21 a vote heard under an honest number whose own table doesn't show that vote"
-votes-ruled :
+votes_ruled :
     -- cast: node 1's own table shows it; a faulty number may send what it likes
     (ruled four 0 (vote 1 A) ∷ ruled four 0 (vote 3 A) ∷ [] ≡ 0 ∷ 0 ∷ [])
     -- never cast, though node 2 holds the block; for a block that node 1 doesn't hold; for the genesis
@@ -119,7 +119,7 @@ votes-ruled :
     -- "on whole records only"; other damage doesn't matter
     × (ruled four 0 (take 95 (vote 2 A)) ∷ ruled four 0 (vote 2 A ++ (0 ∷ [])) ∷ ruled four 0 (message vote_heard 2 1 A no_name no_payload) ∷ [] ≡ 3 ∷ 3 ∷ 21 ∷ [])
 unfolding verdict verdict_number four message
-votes-ruled = (refl, refl, refl, refl, refl)
+votes_ruled = (refl, refl, refl, refl, refl)
 
 -- 0 and 2 honest: A (epoch 1, on genesis) stands at 0 and at 1, which isn't honest with B; 2 is fresh
 unfoldable pub two : Hall
@@ -129,7 +129,7 @@ two =
     (node 0 1 1 (block A 1 0 0 ∷ []) ∷ node 1 1 2 (block A 1 0 0 ∷ block B 1 0 0 ∷ []) ∷ node 2 1 0 [] ∷ [])
 
 -- "22 kind 1 .. whose name stands in some honest node's table with another epoch, parent or payload"
-heard-ruled :
+heard_ruled :
     -- the same block heard by a second gateway, and by the one that has it
     (ruled two 2 (hear 1 1 A genesis_name) ∷ ruled two 0 (hear 1 1 A genesis_name) ∷ [] ≡ 0 ∷ 8 ∷ [])
     -- another epoch, another parent, another payload, in another's table
@@ -141,7 +141,7 @@ heard-ruled :
     -- "on whole records only"; other damage doesn't matter
     × (ruled two 2 (take 95 (hear 1 5 A genesis_name)) ∷ ruled two 2 (hear 9 5 A genesis_name) ∷ [] ≡ 3 ∷ 22 ∷ [])
 unfolding verdict verdict_number two message
-heard-ruled = (refl, refl, refl, refl, refl)
+heard_ruled = (refl, refl, refl, refl, refl)
 
 -- propose A at node 1 of 4, with a payload
 abbrev propose' : List ℕ
@@ -153,7 +153,7 @@ unfolding desk node
 turn epoch local held blocks = desk 4 (true ∷ true ∷ []) (node 0 1 1 (block A epoch 0 0 ∷ []) ∷ node 1 local held blocks ∷ [])
 
 -- "22 kind .. 4": of the block that its receiver would add now
-propose-ruled :
+propose_ruled :
     -- the same block; of the fields of the record only name and payload count
     (ruled (turn 1 1 0 []) 1 (propose 1 A) ∷ ruled (turn 1 1 0 []) 1 (message propose_now 1 9 A B no_payload) ∷ [] ≡ 0 ∷ 5 ∷ [])
     -- another payload; another local epoch; the same epoch on another freshest block
@@ -163,7 +163,7 @@ propose-ruled :
     × (ruled (desk 4 (false ∷ true ∷ []) (node 0 1 0 [] ∷ node 1 5 1 (block A 1 0 0 ∷ []) ∷ [])) 1 (propose 1 A) ∷ [] ≡ 22 ∷ [])
     × (ruled (turn 1 1 0 []) 1 (take 95 propose') ∷ [] ≡ 3 ∷ [])
 unfolding verdict verdict_number turn message
-propose-ruled = (refl, refl, refl, refl, refl)
+propose_ruled = (refl, refl, refl, refl, refl)
 
 -- ---- the hall after a record
 
@@ -172,14 +172,14 @@ abbrev held : Hall → List ℕ
 held h = (gateway h 0).count ∷ (gateway h 1).count ∷ (gateway h 2).count ∷ []
 
 -- a taken record moves its receiver's state; a refused one changes nothing, also where 01 would take it
-halls-after :
+halls_after :
     (held (hall_after two 2 (hear 1 1 A genesis_name)) ≡ 1 ∷ 2 ∷ 1 ∷ [])
     × (hall_after two 2 (hear 1 5 A genesis_name) ≡ two)
     × (hall_after two 1 (hear 2 2 C B) ≡ two)
     × (hall_after four 0 (vote 2 A) ≡ four)
     × (hall_after two 0 (hear 1 1 A genesis_name) ≡ two)
 unfolding hall_after gateway two four message
-halls-after = (refl, refl, refl, refl, refl)
+halls_after = (refl, refl, refl, refl, refl)
 
 -- ---- yes or no
 
@@ -197,7 +197,7 @@ abbrev trues : ℕ → List Bool
 trues k = replicate k true
 
 -- A and A B, in either order; equal lists; an empty one; a fork with a node that isn't honest
-says-yes :
+says_yes :
     map agree
     (desk 8 (trues 2) (keeps 1 ∷ keeps 2 ∷ [])
     ∷ desk 8 (trues 2) (keeps 2 ∷ keeps 1 ∷ [])
@@ -209,10 +209,10 @@ says-yes :
     ∷ [])
     ≡ trues 7
 unfolding agree desk keeps
-says-yes = refl
+says_yes = refl
 
 -- A and C; A B and C; over an empty list between them; the first and the last; the last two; a torn one
-says-no :
+says_no :
     map agree
     (desk 8 (trues 2) (keeps 1 ∷ keeps 3 ∷ [])
     ∷ desk 8 (trues 2) (keeps 3 ∷ keeps 2 ∷ [])
@@ -223,17 +223,17 @@ says-no :
     ∷ [])
     ≡ replicate 6 false
 unfolding agree desk keeps torn
-says-no = refl
+says_no = refl
 
 -- ---- the lines
 
 -- "1 0 yes", "12 22 no", "3 21 yes", each with its line end
-lines-told :
+lines_told :
     (hall_line 1 (Verdict.Answered Answer.Taken) true ≡ 49 ∷ 32 ∷ 48 ∷ 32 ∷ 121 ∷ 101 ∷ 115 ∷ 10 ∷ [])
     × (hall_line 12 Verdict.Clash false ≡ 49 ∷ 50 ∷ 32 ∷ 50 ∷ 50 ∷ 32 ∷ 110 ∷ 111 ∷ 10 ∷ [])
     × (hall_line 3 Verdict.Forged true ≡ 51 ∷ 32 ∷ 50 ∷ 49 ∷ 32 ∷ 121 ∷ 101 ∷ 115 ∷ 10 ∷ [])
 unfolding hall_line
-lines-told = (refl, refl, refl)
+lines_told = (refl, refl, refl)
 
 -- a line of one-digit number and answer that says yes
 abbrev said : ℕ → List ℕ → List ℕ
@@ -241,12 +241,12 @@ said k answer = k ∷ 32 ∷ (answer ++ (32 ∷ 121 ∷ 101 ∷ 115 ∷ 10 ∷ [
 
 -- "After each record the program prints its number, the answer and yes or no": the word is the hall's after the record, here whether
 -- gateway 2 holds one block; and no is printed while lists fork
-words-told :
+words_told :
     (lines_with (λ h. eqb (gateway h 2).count 1) two 0 ((2 ∷ hear 1 1 A genesis_name) ∷ (2 ∷ hear 1 1 A genesis_name) ∷ [])
     ≡ said 49 (48 ∷ []) ++ said 50 (56 ∷ []))
     × (hall_lines (desk 8 (trues 2) (keeps 1 ∷ keeps 3 ∷ [])) 4 ((9 ∷ []) ∷ []) ≡ 53 ∷ 32 ∷ 50 ∷ 48 ∷ 32 ∷ 110 ∷ 111 ∷ 10 ∷ [])
 unfolding lines_with hall_lines gateway two desk keeps message
-words-told = (refl, refl)
+words_told = (refl, refl)
 
 texts :
     -- "15 .. and nothing is played"; a good head and no record

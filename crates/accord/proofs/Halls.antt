@@ -13,7 +13,7 @@ use borrow.Author.Tests.{leb-true, ltb-true, eqb-true, not-true, not-false}
 use Rattle.table.specs.declared.State.{State}
 use Rattle.table.specs.Scan.{pick, all_below}
 use Rattle.table.specs.Rows.{all_zero}
-use Rattle.table.proofs.Laws.{not-both, pick_yes, pick_no, get_d_any, all_below-at}
+use Rattle.table.proofs.Laws.{not_both, pick_yes, pick_no, get_d_any, all_below-at}
 use Rattle.pala.specs.Answers.{taken}
 use Rattle.pala.specs.Record.{record_bytes}
 use Rattle.pala.specs.Run.{lent}
@@ -31,11 +31,11 @@ pub record Head (bytes : List ℕ) : Type 0 where
   pub most : nodes_of bytes ≤ most_gateways
   pub inside : (i : ℕ) → i < most_gateways → in_set bytes i ≡ true → i < nodes_of bytes
 
-pub good-head : (bytes : List ℕ) → good_head bytes ≡ true → Head bytes
+pub good_head_lem : (bytes : List ℕ) → good_head bytes ≡ true → Head bytes
 unfolding good_head
-good-head [] h = absurd (not-both h refl)
-good-head (n ∷ []) h = absurd (not-both h refl)
-good-head (n ∷ set ∷ more) h =
+good_head_lem [] h = absurd (not_both h refl)
+good_head_lem (n ∷ []) h = absurd (not_both h refl)
+good_head_lem (n ∷ set ∷ more) h =
     let bits = all_below most_gateways (λ i. ltb i n || not (in_set (n ∷ set ∷ more) i)) in
     let a : leb 1 n ≡ true = search (and_l, and_r) in
     let b : leb n most_gateways ≡ true = search (and_l, and_r) in
@@ -48,14 +48,14 @@ good-head (n ∷ set ∷ more) h =
   where
     go : (i : ℕ) → in_set (n ∷ set ∷ more) i ≡ true → (ltb i n ≡ true) ⊎ (not (in_set (n ∷ set ∷ more) i) ≡ true) → i < n
     go i k (inl e) = ltb-true i n e
-    go i k (inr e) = absurd (not-both k (not-true (in_set (n ∷ set ∷ more) i) e))
+    go i k (inr e) = absurd (not_both k (not-true (in_set (n ∷ set ∷ more) i) e))
 
 -- ---- a fresh hall
 
 -- what a list of something for each number has at a number
-for-each : {A : Type 0} (f : ℕ → A) (d : A) (i : ℕ) → i < most_gateways → get_or (map f gateways) i d ≡ f i
+for_each : {A : Type 0} (f : ℕ → A) (d : A) (i : ℕ) → i < most_gateways → get_or (map f gateways) i d ≡ f i
 unfolding all_below
-for-each f d i h =
+for_each f d i h =
     get_d_any (map f gateways) i d (f 0) h
     ∙ get_or-map f gateways i 0
     ∙ ap f (eqb-true (get_or gateways i 0) i (all_below-at most_gateways (λ j. eqb (get_or gateways j 0) j) refl i h))
@@ -63,19 +63,19 @@ for-each f d i h =
 module _ (bytes : List ℕ) where
   pub fresh-gateway : (i : ℕ) → i < most_gateways → gateway (fresh_hall bytes) i ≡ (start (nodes_of bytes) i).state
   unfolding gateway fresh_hall
-  fresh-gateway i h = for-each (λ j. (start (nodes_of bytes) j).state) all_zero i h
+  fresh-gateway i h = for_each (λ j. (start (nodes_of bytes) j).state) all_zero i h
 
-  pub fresh-honest : (i : ℕ) → i < most_gateways → honest_in (fresh_hall bytes) i ≡ in_set bytes i
+  pub fresh_honest : (i : ℕ) → i < most_gateways → honest_in (fresh_hall bytes) i ≡ in_set bytes i
   unfolding honest_in fresh_hall
-  fresh-honest i h = for-each (in_set bytes) false i h
+  fresh_honest i h = for_each (in_set bytes) false i h
 
 -- nobody is honest past the last number
-pub honest-below : (h : Hall) (i : ℕ) → length h.honest ≡ most_gateways → honest_in h i ≡ true → i < most_gateways
+pub honest_below : (h : Hall) (i : ℕ) → length h.honest ≡ most_gateways → honest_in h i ≡ true → i < most_gateways
 unfolding honest_in
-honest-below h i e k =
+honest_below h i e k =
     elim (dec_lt i most_gateways) [
       | yes l ↦ l
-      | no l ↦ absurd (not-both k (get_or-eq_default h.honest false (omega arith)))
+      | no l ↦ absurd (not_both k (get_or-eq_default h.honest false (omega arith)))
     ]
 
 -- ---- a taken record
@@ -89,7 +89,7 @@ pub record Allowed (h : Hall) (to : ℕ) (r : List ℕ) : Type 0 where
 
 past : (b : Bool) (v w : Verdict) → passes v ≡ false → passes (pick b v w) ≡ true → (b ≡ false) × (passes w ≡ true)
 unfolding pick
-past true v w f k = absurd (not-both k f)
+past true v w f k = absurd (not_both k f)
 past false v w f k = (refl, k)
 
 pub allowed : (h : Hall) (to : ℕ) (r : List ℕ) → passes (verdict h to r) ≡ true → Allowed h to r
@@ -103,13 +103,13 @@ allowed h to r k =
 -- ---- the hall after a record
 
 module _ (h : Hall) (to : ℕ) (r : List ℕ) where
-  pub hall-moves : passes (verdict h to r) ≡ true → hall_after h to r ≡ seated h to (step (gateway h to) r lent).state
+  pub hall_moves : passes (verdict h to r) ≡ true → hall_after h to r ≡ seated h to (step (gateway h to) r lent).state
   unfolding hall_after
-  hall-moves = pick_yes (passes (verdict h to r)) (seated h to (step (gateway h to) r lent).state) h
+  hall_moves = pick_yes (passes (verdict h to r)) (seated h to (step (gateway h to) r lent).state) h
 
-  pub hall-stays : passes (verdict h to r) ≡ false → hall_after h to r ≡ h
+  pub hall_stays : passes (verdict h to r) ≡ false → hall_after h to r ≡ h
   unfolding hall_after
-  hall-stays = pick_no (passes (verdict h to r)) (seated h to (step (gateway h to) r lent).state) h
+  hall_stays = pick_no (passes (verdict h to r)) (seated h to (step (gateway h to) r lent).state) h
 
 -- one gateway's state is another, and those of the others are as they were
 module _ (h : Hall) (i : ℕ) (s : State) where
@@ -117,6 +117,6 @@ module _ (h : Hall) (i : ℕ) (s : State) where
   unfolding gateway seated
   seated-same l = get_or-set_same h.states i s all_zero l
 
-  pub seated-other : (j : ℕ) → j ≢ i → gateway (seated h i s) j ≡ gateway h j
+  pub seated_other : (j : ℕ) → j ≢ i → gateway (seated h i s) j ≡ gateway h j
   unfolding gateway seated
-  seated-other j d = get_or-set_other h.states i j s all_zero d
+  seated_other j d = get_or-set_other h.states i j s all_zero d

@@ -10,7 +10,7 @@ use Rattle.table.proofs.Laws.{pick_yes}
 use Rattle.pala.specs.Lists.{joined, final_names}
 use Rattle.pala.specs.Run.{cut}
 use Rattle.pala.specs.Safety.{Run, Honest, shown_at, Premises, OneBegins}
-use Rattle.pala.proofs.Demand.Events.{by-event}
+use Rattle.pala.proofs.Demand.Events.{by_event}
 use Rattle.pala.proofs.Demand.Safety.{safe}
 use Rattle.accord.specs.declared.Hall.{Hall}
 use Rattle.accord.specs.Head.{nodes_of, in_set, good_head, fresh_hall, no_hall, opened}
@@ -18,14 +18,14 @@ use Rattle.accord.specs.Rulings.{verdict}
 use Rattle.accord.specs.Words.{agree, list_of}
 use Rattle.accord.specs.Text.{sent_bytes, receiver_of, record_of, hall_played, hall_line, lines_with, hall_lines, hall_text}
 use Rattle.accord.specs.NeverNo.{FewHead, NeverNo}
-use Rattle.accord.proofs.Halls.{Head, good-head}
-use Rattle.accord.proofs.Played.{hall_next, run_of, hosted, reached-end, honest-of}
+use Rattle.accord.proofs.Halls.{Head, good_head_lem}
+use Rattle.accord.proofs.Played.{hall_next, run_of, hosted, reached_end, honest_of}
 use Rattle.accord.proofs.Premises.{last_book, each-taken}
-use Rattle.accord.proofs.Agrees.{any-agree}
+use Rattle.accord.proofs.Agrees.{any_agree}
 
 module _ (bytes : List ℕ) (f : FewHead bytes) (xs : List (List ℕ)) where
   head : Head bytes
-  head = good-head bytes f.good
+  head = good_head_lem bytes f.good
 
   run : Run
   run = run_of bytes head xs
@@ -36,7 +36,7 @@ module _ (bytes : List ℕ) (f : FewHead bytes) (xs : List (List ℕ)) where
   premises : Premises (nodes_of bytes) (in_set bytes) run
   unfolding run
   premises =
-      by-event (nodes_of bytes) (in_set bytes) run
+      by_event (nodes_of bytes) (in_set bytes) run
       (record {
         some = head.some;
         most = omega (arith, head.most);
@@ -48,29 +48,29 @@ module _ (bytes : List ℕ) (f : FewHead bytes) (xs : List (List ℕ)) where
   -- what the hall shows is what the run shows
   shown-is : (i : ℕ) → Honest (nodes_of bytes) (in_set bytes) i → shown_at (nodes_of bytes) run (length run) i ≡ list_of h i
   unfolding shown_at list_of run h
-  shown-is i hi = ap (λ (s : State). joined (final_names s)) (sym ((reached-end bytes head xs).follows i hi.0))
+  shown-is i hi = ap (λ (s : State). joined (final_names s)) (sym ((reached_end bytes head xs).follows i hi.0))
 
   -- of any two honest final lists, after any records, one begins the other
-  pub always-agrees : agree (hall_played (fresh_hall bytes) xs) ≡ true
+  pub always_agrees : agree (hall_played (fresh_hall bytes) xs) ≡ true
   unfolding h run
-  always-agrees =
-      any-agree h
+  always_agrees =
+      any_agree h
       (λ i j _ _ a b.
-      let hi = honest-of bytes head run (reached-end bytes head xs) i a in
-      let hj = honest-of bytes head run (reached-end bytes head xs) j b in
+      let hi = honest_of bytes head run (reached_end bytes head xs) i a in
+      let hj = honest_of bytes head run (reached_end bytes head xs) j b in
       subst₂ OneBegins (shown-is i hi) (shown-is j hj)
       (safe (nodes_of bytes) (in_set bytes) run premises i j (length run) (length run) hi hj))
 
 -- lines whose words are all yes
-lines-yes : (word : Hall → Bool) (hall : Hall) → ((xs : List (List ℕ)) → word (hall_played hall xs) ≡ true)
+lines_yes : (word : Hall → Bool) (hall : Hall) → ((xs : List (List ℕ)) → word (hall_played hall xs) ≡ true)
     → (before : ℕ) (xs : List (List ℕ)) → lines_with word hall before xs ≡ lines_with (λ _. true) hall before xs
 unfolding lines_with hall_played
-lines-yes word hall always before [] = refl
-lines-yes word hall always before (x ∷ more) =
+lines_yes word hall always before [] = refl
+lines_yes word hall always before (x ∷ more) =
     let next : Hall = hall_next hall x in
     let line : Bool → List ℕ = hall_line (suc before) (verdict hall (receiver_of x) (record_of x)) in
     ap (λ b. line b ++ lines_with word next (suc before) more) (always (x ∷ []))
-    ∙ ap (λ l. line true ++ l) (lines-yes word next (λ xs. always (x ∷ xs)) (suc before) more)
+    ∙ ap (λ l. line true ++ l) (lines_yes word next (λ xs. always (x ∷ xs)) (suc before) more)
 
 -- the text of a good head
 pub good-text : (bytes : List ℕ) → good_head bytes ≡ true → hall_text bytes ≡ hall_lines (fresh_hall bytes) 0 (cut sent_bytes (drop 2 bytes))
@@ -83,6 +83,6 @@ good-text bytes e =
     first true x y e = refl
     first false x y e = absurd (false≢true e)
 
-pub never-no : NeverNo
+pub never_no : NeverNo
 unfolding hall_lines
-never-no bytes f = good-text bytes f.good ∙ lines-yes agree (fresh_hall bytes) (always-agrees bytes f) 0 (cut sent_bytes (drop 2 bytes))
+never_no bytes f = good-text bytes f.good ∙ lines_yes agree (fresh_hall bytes) (always_agrees bytes f) 0 (cut sent_bytes (drop 2 bytes))

@@ -45,18 +45,18 @@ cut-length k xs e = let counted = cut-count sent_bytes (omega arith) xs in omega
 
 -- .. and then the rest
 module _ (k : ℕ) (xs ys : List ℕ) (e : length xs ≡ k * sent_bytes) where
-  cut-whole : cut sent_bytes (xs ++ ys) ≡ cut sent_bytes xs ++ cut sent_bytes ys
-  cut-whole = cut-append sent_bytes (omega arith) k xs ys e
+  cut_whole : cut sent_bytes (xs ++ ys) ≡ cut sent_bytes xs ++ cut sent_bytes ys
+  cut_whole = cut-append sent_bytes (omega arith) k xs ys e
 
-  pub hall-pieces-played : (h : Hall) → hall_played h (cut sent_bytes (xs ++ ys)) ≡ hall_played (hall_played h (cut sent_bytes xs)) (cut sent_bytes ys)
-  hall-pieces-played h = ap (hall_played h) cut-whole ∙ hall-played-append h (cut sent_bytes xs) (cut sent_bytes ys)
+  pub hall_pieces_played : (h : Hall) → hall_played h (cut sent_bytes (xs ++ ys)) ≡ hall_played (hall_played h (cut sent_bytes xs)) (cut sent_bytes ys)
+  hall_pieces_played h = ap (hall_played h) cut_whole ∙ hall-played-append h (cut sent_bytes xs) (cut sent_bytes ys)
 
-  pub hall-pieces : (h : Hall) (before : ℕ)
+  pub hall_pieces : (h : Hall) (before : ℕ)
       → hall_lines h before (cut sent_bytes (xs ++ ys))
       ≡ hall_lines h before (cut sent_bytes xs) ++ hall_lines (hall_played h (cut sent_bytes xs)) (before + k) (cut sent_bytes ys)
   unfolding hall_lines
-  hall-pieces h before =
-      ap (hall_lines h before) cut-whole
+  hall_pieces h before =
+      ap (hall_lines h before) cut_whole
       ∙ hall-lines-append agree h before (cut sent_bytes xs) (cut sent_bytes ys)
       ∙ ap (λ n. hall_lines h before (cut sent_bytes xs) ++ hall_lines (hall_played h (cut sent_bytes xs)) (before + n) (cut sent_bytes ys)) (cut-length k xs e)
 
@@ -72,18 +72,18 @@ piece_lines h before [] = []
 piece_lines h before (p ∷ more) =
     hall_lines h before (cut sent_bytes p) ++ piece_lines (hall_played h (cut sent_bytes p)) (before + length (cut sent_bytes p)) more
 
-pub pieces-lines : {ps : List (List ℕ)} → Pieces ps → (h : Hall) (before : ℕ) → piece_lines h before ps ≡ hall_lines h before (cut sent_bytes (joined ps))
+pub pieces_lines : {ps : List (List ℕ)} → Pieces ps → (h : Hall) (before : ℕ) → piece_lines h before ps ≡ hall_lines h before (cut sent_bytes (joined ps))
 unfolding piece_lines joined
-pieces-lines (lastly p) h before = append-nil (hall_lines h before (cut sent_bytes p)) ∙ ap (λ l. hall_lines h before (cut sent_bytes l)) (sym (append-nil p))
-pieces-lines (firstly {more = more} p k e w) h before =
+pieces_lines (lastly p) h before = append-nil (hall_lines h before (cut sent_bytes p)) ∙ ap (λ l. hall_lines h before (cut sent_bytes l)) (sym (append-nil p))
+pieces_lines (firstly {more = more} p k e w) h before =
     ap (λ n. hall_lines h before (cut sent_bytes p) ++ piece_lines (hall_played h (cut sent_bytes p)) (before + n) more) (cut-length k p e)
-    ∙ ap (λ l. hall_lines h before (cut sent_bytes p) ++ l) (pieces-lines w (hall_played h (cut sent_bytes p)) (before + k))
-    ∙ sym (hall-pieces k p (joined more) e h before)
+    ∙ ap (λ l. hall_lines h before (cut sent_bytes p) ++ l) (pieces_lines w (hall_played h (cut sent_bytes p)) (before + k))
+    ∙ sym (hall_pieces k p (joined more) e h before)
 
 -- so the pieces joined are the text of the whole recording
-pub hall-text-pieces : (bytes : List ℕ) → good_head bytes ≡ true → (ps : List (List ℕ)) → Pieces ps → joined ps ≡ drop 2 bytes
+pub hall-text_pieces : (bytes : List ℕ) → good_head bytes ≡ true → (ps : List (List ℕ)) → Pieces ps → joined ps ≡ drop 2 bytes
     → hall_text bytes ≡ piece_lines (fresh_hall bytes) 0 ps
-hall-text-pieces bytes good ps w e =
+hall-text_pieces bytes good ps w e =
     good-text bytes good
     ∙ ap (λ l. hall_lines (fresh_hall bytes) 0 (cut sent_bytes l)) (sym e)
-    ∙ sym (pieces-lines w (fresh_hall bytes) 0)
+    ∙ sym (pieces_lines w (fresh_hall bytes) 0)

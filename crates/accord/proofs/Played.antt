@@ -10,7 +10,7 @@ use lib.ListN.{length, get_or, drop, length-drop, length-set}
 use lib.Seq.{drop-cons}
 use Rattle.table.specs.declared.State.{State}
 use Rattle.table.specs.Scan.{pick}
-use Rattle.table.proofs.Laws.{not-both, pick_yes, pick_no}
+use Rattle.table.proofs.Laws.{not_both, pick_yes, pick_no}
 use Rattle.pala.specs.Answers.{taken}
 use Rattle.pala.specs.Run.{lent}
 use Rattle.pala.specs.Safety.{Event, Run, event_at, follow, state_at, Honest}
@@ -21,7 +21,7 @@ use Rattle.accord.specs.declared.Hall.{Hall}
 use Rattle.accord.specs.Head.{most_gateways, nodes_of, in_set, fresh_hall, gateway, honest_in}
 use Rattle.accord.specs.Rulings.{verdict, passes, seated, hall_after}
 use Rattle.accord.specs.Text.{receiver_of, record_of, hall_played}
-use Rattle.accord.proofs.Halls.{Head, Allowed, allowed, fresh-gateway, fresh-honest, honest-below, hall-moves, hall-stays, seated-same, seated-other}
+use Rattle.accord.proofs.Halls.{Head, Allowed, allowed, fresh-gateway, fresh_honest, honest_below, hall_moves, hall_stays, seated-same, seated_other}
 
 -- a record of a recording as an event
 abbrev pub event_of : List ℕ → Event
@@ -62,15 +62,15 @@ module _ (bytes : List ℕ) (head : Head bytes) (run : Run) where
       }
 
   -- its honest gateways are the head's
-  pub honest-in : {h : Hall} {m : ℕ} → Reached h m → (i : ℕ) → i < most_gateways → honest_in h i ≡ in_set bytes i
+  pub honest_in_lem : {h : Hall} {m : ℕ} → Reached h m → (i : ℕ) → i < most_gateways → honest_in h i ≡ in_set bytes i
   unfolding honest_in
-  honest-in w i l = ap (λ (b : List Bool). get_or b i false) w.honests ∙ fresh-honest bytes i l
+  honest_in_lem w i l = ap (λ (b : List Bool). get_or b i false) w.honests ∙ fresh_honest bytes i l
 
-  pub honest-of : {h : Hall} {m : ℕ} → Reached h m → (i : ℕ) → honest_in h i ≡ true → Honest (nodes_of bytes) (in_set bytes) i
+  pub honest_of : {h : Hall} {m : ℕ} → Reached h m → (i : ℕ) → honest_in h i ≡ true → Honest (nodes_of bytes) (in_set bytes) i
   unfolding fresh_hall
-  honest-of {h} w i k =
-      let l : i < most_gateways = honest-below h i (ap length w.honests) k in
-      let e : in_set bytes i ≡ true = sym (honest-in w i l) ∙ k in
+  honest_of {h} w i k =
+      let l : i < most_gateways = honest_below h i (ap length w.honests) k in
+      let e : in_set bytes i ≡ true = sym (honest_in_lem w i l) ∙ k in
       (head.inside i l e, e)
 
   -- the state of a gateway after event m, which one gateway takes
@@ -79,26 +79,26 @@ module _ (bytes : List ℕ) (head : Head bytes) (run : Run) where
     now = allowed h (receiver_of x) (record_of x) k
 
     -- what the event handed its receiver is what the hall seats
-    call-is : (i : ℕ) → i < nodes_of bytes → i ≡ receiver_of x → call_at (nodes_of bytes) run m i ≡ call h x
-    call-is i l e =
+    call_is : (i : ℕ) → i < nodes_of bytes → i ≡ receiver_of x → call_at (nodes_of bytes) run m i ≡ call h x
+    call_is i l e =
         ap (λ (v : Event). step (state_at (nodes_of bytes) run m i) v.bytes v.buffer) same
         ∙ ap (λ (s : State). step s (record_of x) lent) (sym (w.follows i l) ∙ ap (gateway h) e)
 
     took : (i : ℕ) → (l : i < nodes_of bytes) → i ≡ receiver_of x → Next (nodes_of bytes) run m i → (call h x).state ≡ state_at (nodes_of bytes) run (suc m) i
     took i l e (stayed idle _) =
         absurd
-        (not-both (ap (λ (o : Outcome). taken o.answer) (call-is i l e) ∙ now.answered)
+        (not_both (ap (λ (o : Outcome). taken o.answer) (call_is i l e) ∙ now.answered)
         (idle within (ap (λ (v : Event). v.to) same ∙ sym e)))
-    took i l e (moved v) = ap (λ (o : Outcome). o.state) (sym (call-is i l e)) ∙ v.settles ∙ sym v.later
+    took i l e (moved v) = ap (λ (o : Outcome). o.state) (sym (call_is i l e)) ∙ v.settles ∙ sym v.later
 
     others : (i : ℕ) → (i ≡ receiver_of x → ⊥) → Next (nodes_of bytes) run m i → state_at (nodes_of bytes) run m i ≡ state_at (nodes_of bytes) run (suc m) i
     others i d (stayed _ e) = sym e
     others i d (moved v) = absurd (d (sym v.its ∙ ap (λ (v : Event). v.to) same))
 
-    reached-next : Reached (hall_next h x) (suc m)
+    reached_next : Reached (hall_next h x) (suc m)
     unfolding seated
-    reached-next =
-        subst (λ (z : Hall). Reached z (suc m)) (sym (hall-moves h (receiver_of x) (record_of x) k))
+    reached_next =
+        subst (λ (z : Hall). Reached z (suc m)) (sym (hall_moves h (receiver_of x) (record_of x) k))
         (record {
           seats = length-set h.states (receiver_of x) (call h x).state ∙ w.seats;
           honests = w.honests;
@@ -109,7 +109,7 @@ module _ (bytes : List ℕ) (head : Head bytes) (run : Run) where
                     ap (gateway (seated h (receiver_of x) (call h x).state)) e
                     ∙ seated-same h (receiver_of x) (call h x).state (omega (arith, w.seats, head.most))
                     ∙ took i l e turn
-                | no d ↦ seated-other h (receiver_of x) (call h x).state i d ∙ w.follows i l ∙ others i d turn
+                | no d ↦ seated_other h (receiver_of x) (call h x).state i d ∙ w.follows i l ∙ others i d turn
               ];
         })
 
@@ -133,7 +133,7 @@ module _ (bytes : List ℕ) (head : Head bytes) (run : Run) where
 
       go : (takes h x ≡ true) ⊎ (takes h x ≡ false) → Turn h x more m
       go (inr k) =
-          skipped (subst (λ (z : Hall). Reached z m) (sym (hall-stays h (receiver_of x) (record_of x) k)) w) (e ∙ pick_no (takes h x) (event_of x ∷ rest) rest k)
+          skipped (subst (λ (z : Hall). Reached z m) (sym (hall_stays h (receiver_of x) (record_of x) k)) w) (e ∙ pick_no (takes h x) (event_of x ∷ rest) rest k)
       go (inl k) =
           let here : drop m run ≡ event_of x ∷ rest = e ∙ pick_yes (takes h x) (event_of x ∷ rest) rest k in
           let within : m < length run = omega (arith, length-drop m run, ap length here) in
@@ -146,30 +146,30 @@ module _ (bytes : List ℕ) (head : Head bytes) (run : Run) where
             reached = w;
             admits = subst (λ (v : Event). Allowed h v.to v.bytes) (sym same) (allowed h (receiver_of x) (record_of x) k);
           })
-          (reached-next x w within same k) left
+          (reached_next x w within same k) left
 
   -- at each event
-  hosted-from : (xs : List (List ℕ)) (h : Hall) (m : ℕ) → Reached h m → drop m run ≡ events h xs → (k : ℕ) → m ≤ k → k < length run → Hosted k
+  hosted_from : (xs : List (List ℕ)) (h : Hall) (m : ℕ) → Reached h m → drop m run ≡ events h xs → (k : ℕ) → m ≤ k → k < length run → Hosted k
   unfolding events
-  hosted-from [] h m w e k l b = absurd (omega (arith, length-drop m run, ap length e))
-  hosted-from (x ∷ more) h m w e k l b =
+  hosted_from [] h m w e k l b = absurd (omega (arith, length-drop m run, ap length e))
+  hosted_from (x ∷ more) h m w e k l b =
       elim (turn h x more m w e) [
         | played _ here later left ↦
             elim (dec_lt m k) [
-              | yes z ↦ hosted-from more (hall_next h x) (suc m) later left k z b
+              | yes z ↦ hosted_from more (hall_next h x) (suc m) later left k z b
               | no z ↦ let s : m ≡ k = omega arith in subst Hosted s here
             ]
-        | skipped later left ↦ hosted-from more (hall_next h x) m later left k l b
+        | skipped later left ↦ hosted_from more (hall_next h x) m later left k l b
       ]
 
   -- and at the end
-  end-from : (xs : List (List ℕ)) (h : Hall) (m : ℕ) → Reached h m → m ≤ length run → drop m run ≡ events h xs → Reached (hall_played h xs) (length run)
+  end_from : (xs : List (List ℕ)) (h : Hall) (m : ℕ) → Reached h m → m ≤ length run → drop m run ≡ events h xs → Reached (hall_played h xs) (length run)
   unfolding events hall_played
-  end-from [] h m w l e = let s : m ≡ length run = omega (arith, length-drop m run, ap length e) in subst (Reached h) s w
-  end-from (x ∷ more) h m w l e =
+  end_from [] h m w l e = let s : m ≡ length run = omega (arith, length-drop m run, ap length e) in subst (Reached h) s w
+  end_from (x ∷ more) h m w l e =
       elim (turn h x more m w e) [
-        | played within _ later left ↦ end-from more (hall_next h x) (suc m) later within left
-        | skipped later left ↦ end-from more (hall_next h x) m later l left
+        | played within _ later left ↦ end_from more (hall_next h x) (suc m) later within left
+        | skipped later left ↦ end_from more (hall_next h x) m later l left
       ]
 
 -- the run of a recording
@@ -178,7 +178,7 @@ module _ (bytes : List ℕ) (head : Head bytes) (xs : List (List ℕ)) where
   run_of = events (fresh_hall bytes) xs
 
   pub hosted : (k : ℕ) → k < length run_of → Hosted bytes head run_of k
-  hosted k l = hosted-from bytes head run_of xs (fresh_hall bytes) 0 (reached-start bytes head run_of) refl k (omega arith) l
+  hosted k l = hosted_from bytes head run_of xs (fresh_hall bytes) 0 (reached-start bytes head run_of) refl k (omega arith) l
 
-  pub reached-end : Reached bytes head run_of (hall_played (fresh_hall bytes) xs) (length run_of)
-  reached-end = end-from bytes head run_of xs (fresh_hall bytes) 0 (reached-start bytes head run_of) (omega arith) refl
+  pub reached_end : Reached bytes head run_of (hall_played (fresh_hall bytes) xs) (length run_of)
+  reached_end = end_from bytes head run_of xs (fresh_hall bytes) 0 (reached-start bytes head run_of) (omega arith) refl

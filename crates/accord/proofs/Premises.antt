@@ -11,7 +11,7 @@ use borrow.Author.Tests.{eq-eqb, not-false}
 use Rattle.table.specs.declared.Block.{Block}
 use Rattle.table.specs.declared.State.{State}
 use Rattle.table.specs.Rows.{most_nodes, rows, size, at, has_voter}
-use Rattle.table.proofs.Laws.{not-both}
+use Rattle.table.proofs.Laws.{not_both}
 use Rattle.pala.specs.Answers.{number, taken}
 use Rattle.pala.specs.Record.{record_bytes, kind_of, sender_of, name_of, is, proposal_heard, vote_heard, propose_now}
 use Rattle.pala.specs.Run.{lent}
@@ -22,20 +22,20 @@ use Rattle.pala.specs.Steps.{settled}
 use Rattle.pala.proofs.Tests.{and_l, and_r, and_both, nand}
 use Rattle.pala.proofs.Grown.{Grown, rows_settled}
 use Rattle.pala.proofs.Keeps.{Proper}
-use Rattle.pala.proofs.Moves.{Stepped, refused, took, record-length}
-use Rattle.pala.proofs.Calls.{call-did}
-use Rattle.pala.proofs.Demand.Changes.{new-place}
-use Rattle.pala.proofs.Demand.Healthy.{did-grown}
+use Rattle.pala.proofs.Moves.{Stepped, refused, took, record_length}
+use Rattle.pala.proofs.Calls.{call_did}
+use Rattle.pala.proofs.Demand.Changes.{new_place}
+use Rattle.pala.proofs.Demand.Healthy.{did_grown}
 use Rattle.pala.proofs.Demand.OwnVotes.{own-votes}
-use Rattle.pala.proofs.Demand.Runs.{call_at, effect_at, fresh-none, Moved, Next, stayed, moved, next, starts, reached, tables-grow}
+use Rattle.pala.proofs.Demand.Runs.{call_at, effect_at, fresh_none, Moved, Next, stayed, moved, next, starts, reached, tables_grow}
 use Rattle.accord.specs.declared.Hall.{Hall}
 use Rattle.accord.specs.Head.{nodes_of, in_set, gateway, honest_in}
 use Rattle.accord.specs.Rulings.{table_of, named, shows, forged, clash, content_at, content_of}
-use Rattle.accord.proofs.Scans.{any-hit}
+use Rattle.accord.proofs.Scans.{any_hit}
 use Rattle.accord.proofs.Halls.{Head}
-use Rattle.accord.proofs.Played.{Hosted, honest-in, honest-of}
-use Rattle.accord.proofs.Blocks.{Entry, Stands, entry, Adds, stands_one, stands-fits, grown-stands, grown-stood, new-stands}
-use Rattle.accord.proofs.OneBlock.{named-stands, clash-none, OneEntry, book_of, book-is}
+use Rattle.accord.proofs.Played.{Hosted, honest_in_lem, honest_of}
+use Rattle.accord.proofs.Blocks.{Entry, Stands, entry, Adds, stands_one, stands_fits, grown_stands, grown_stood, new_stands}
+use Rattle.accord.proofs.OneBlock.{named_stands, clash_none, OneEntry, book_of, book-is}
 
 -- the receiver and the record of an event
 abbrev to_at : Run → ℕ → ℕ
@@ -45,26 +45,26 @@ abbrev bytes_at : Run → ℕ → List ℕ
 bytes_at run k = (event_at run k).bytes
 
 -- a taken record is whole
-taken-whole : (s : State) (r out : List ℕ) → Proper s → taken (step s r out).answer ≡ true → eqb (length r) record_bytes ≡ true
-taken-whole s r out k e = go (call-did s r out k)
+taken_whole : (s : State) (r out : List ℕ) → Proper s → taken (step s r out).answer ≡ true → eqb (length r) record_bytes ≡ true
+taken_whole s r out k e = go (call_did s r out k)
   where
     go : Stepped room s r out (step s r out) → eqb (length r) record_bytes ≡ true
-    go (refused f _) = absurd (not-both e f)
-    go (took _ p _ _) = eq-eqb (length r) record_bytes (record-length r out p.lengths)
+    go (refused f _) = absurd (not_both e f)
+    go (took _ p _ _) = eq-eqb (length r) record_bytes (record_length r out p.lengths)
 
 -- a table shows a vote of node j for a name
 abbrev Shown : List Block → ℕ → List ℕ → Type 0
 Shown t j x = (p : ℕ) × (c : Entry) × Stands t p x c × (has_voter (at t p) j ≡ true)
 
 -- 21 not given: an honest sender's own table shows its vote
-forged-none : (h : Hall) (r : List ℕ) → forged h r ≡ false → is vote_heard r ≡ true → honest_in h (sender_of r) ≡ true
+forged_none : (h : Hall) (r : List ℕ) → forged h r ≡ false → is vote_heard r ≡ true → honest_in h (sender_of r) ≡ true
     → Shown (table_of h (sender_of r)) (sender_of r) (name_of r)
 unfolding forged shows
-forged-none h r e kind hj =
-    let (p, l, y) = any-hit (size t) (λ q. named t (name_of r) q && has_voter (at t q) (sender_of r)) shown in (
+forged_none h r e kind hj =
+    let (p, l, y) = any_hit (size t) (λ q. named t (name_of r) q && has_voter (at t q) (sender_of r)) shown in (
       p,
       entry (content_at t p),
-      named-stands p l (and_l (named t (name_of r) p) (has_voter (at t p) (sender_of r)) y),
+      named_stands p l (and_l (named t (name_of r) p) (has_voter (at t p) (sender_of r)) y),
       and_r (named t (name_of r) p) (has_voter (at t p) (sender_of r)) y,
     )
   where
@@ -106,14 +106,14 @@ module _ (bytes : List ℕ) (head : Head bytes) (run : Run) (hosted : (k : ℕ) 
     unfolding table_of table_at
     table_is i b = ap rows (state-is i b)
 
-    host-honest : (i : ℕ) → Honest n honest i → honest_in h i ≡ true
-    host-honest i hi = honest-in bytes head run (hosted k l).reached i (omega (arith, hi.0, head.most)) ∙ hi.1
+    host_honest : (i : ℕ) → Honest n honest i → honest_in h i ≡ true
+    host_honest i hi = honest_in_lem bytes head run (hosted k l).reached i (omega (arith, hi.0, head.most)) ∙ hi.1
 
     whole : eqb (length (bytes_at run k)) record_bytes ≡ true
     whole =
         let admits = (hosted k l).admits in
-        let below : to_at run k < n = (honest-of bytes head run (hosted k l).reached (to_at run k) admits.honest).0 in
-        taken-whole (gateway h (to_at run k)) (bytes_at run k) lent
+        let below : to_at run k < n = (honest_of bytes head run (hosted k l).reached (to_at run k) admits.honest).0 in
+        taken_whole (gateway h (to_at run k)) (bytes_at run k) lent
         (subst Proper (sym (state-is (to_at run k) below)) (proper k (to_at run k) below)) admits.answered
 
     not-forged : forged h (bytes_at run k) ≡ false
@@ -129,17 +129,17 @@ module _ (bytes : List ℕ) (head : Head bytes) (run : Run) (hosted : (k : ℕ) 
     vote-cast kind hj =
         let (p, _, v, y) =
         subst (λ (t : List Block). Shown t j (name_of (bytes_at run k))) (table_is j hj.0)
-        (forged-none h (bytes_at run k) not-forged kind (host-honest j hj)) in
+        (forged_none h (bytes_at run k) not-forged kind (host_honest j hj)) in
         subst (Cast n run k j) v.named ((own-votes n j head.some most hj.0 run k p v.held).0 y)
       where
         j : ℕ
         j = sender_of (bytes_at run k)
 
     -- a name that an honest table has is the record's block
-    entry-is : Adds (bytes_at run k) → (i p : ℕ) (c : Entry) → Honest n honest i → Stands (table_at n run k i) p (name_of (bytes_at run k)) c
+    entry_is : Adds (bytes_at run k) → (i p : ℕ) (c : Entry) → Honest n honest i → Stands (table_at n run k i) p (name_of (bytes_at run k)) c
         → (a : ℕ) → a < n → to_at run k ≡ a → c ≡ entry (content_of (state_at n run k a) (bytes_at run k))
-    entry-is adds i p c hi v a b e =
-        clash-none h (gateway h (to_at run k)) (bytes_at run k) not-clash adds i (omega (arith, hi.0, head.most)) (host-honest i hi) p c
+    entry_is adds i p c hi v a b e =
+        clash_none h (gateway h (to_at run k)) (bytes_at run k) not-clash adds i (omega (arith, hi.0, head.most)) (host_honest i hi) p c
         (subst (λ (t : List Block). Stands t p (name_of (bytes_at run k)) c) (sym (table_is i hi.0)) v)
         ∙ ap (λ (s : State). entry (content_of s (bytes_at run k))) (ap (gateway h) e ∙ state-is a b)
 
@@ -159,7 +159,7 @@ module _ (bytes : List ℕ) (head : Head bytes) (run : Run) (hosted : (k : ℕ) 
     where
       go : Next n run m i → Came m i p x c
       go (stayed _ e) = old (subst (λ (s : State). Stands (rows s) p x c) e v)
-      go (moved w) = place (new-place (proper m i l) w.did p now.held.1)
+      go (moved w) = place (new_place (proper m i l) w.did p now.held.1)
         where
           u : State
           u = effect_at n run m i
@@ -168,16 +168,16 @@ module _ (bytes : List ℕ) (head : Head bytes) (run : Run) (hosted : (k : ℕ) 
           now = subst (λ (t : List Block). Stands t p x c) (ap rows w.later ∙ rows_settled u) v
 
           place : (p < size (rows (state_at n run m i))) ⊎ (Adds (bytes_at run m) × (p ≡ u.count)) → Came m i p x c
-          place (inl b) = old (grown-stood (did-grown (proper m i l) w.did) p (now.held.0, b) now)
+          place (inl b) = old (grown_stood (did_grown (proper m i l) w.did) p (now.held.0, b) now)
           place (inr (adds, e)) =
               let same =
-              stands_one (subst (λ q. Stands (rows u) q x c) e now) (new-stands (proper m i l) (bytes_at run m) (after m i l w) adds) in
+              stands_one (subst (λ q. Stands (rows u) q x c) e now) (new_stands (proper m i l) (bytes_at run m) (after m i l w) adds) in
               new w adds same.0 same.1
 
   one_entry : (m : ℕ) → OneEntry n honest (table_at n run m)
   unfolding table_at
   one_entry zero i j p q x c d hi hj v w =
-      absurd (fresh-none n i p (subst (λ (s : State). Held (rows s) p) (starts n i head.some most hi.0 run) v.held))
+      absurd (fresh_none n i p (subst (λ (s : State). Held (rows s) p) (starts n i head.some most hi.0 run) v.held))
   one_entry (suc m) i j p q x c d hi hj v w = go (one_entry m) (came m i p x c hi.0 v) (came m j q x d hj.0 w)
     where
       r : List ℕ
@@ -187,7 +187,7 @@ module _ (bytes : List ℕ) (head : Head bytes) (run : Run) (hosted : (k : ℕ) 
       met : (a b k : ℕ) (f g : Entry) → Honest n honest b → Moved n run m a → a < n → Adds r → x ≡ name_of r
           → f ≡ entry (content_of (state_at n run m a) r) → Stands (table_at n run m b) k x g → f ≡ g
       met a b k f g hb u l adds ex ef y =
-          ef ∙ sym (entry-is m u.happened adds b k g hb (subst (λ z. Stands (table_at n run m b) k z g) ex y) a l u.its)
+          ef ∙ sym (entry_is m u.happened adds b k g hb (subst (λ z. Stands (table_at n run m b) k z g) ex y) a l u.its)
 
       go : OneEntry n honest (table_at n run m) → Came m i p x c → Came m j q x d → c ≡ d
       go ih (old a) (old b) = ih i j p q x c d hi hj a b
@@ -209,24 +209,24 @@ module _ (bytes : List ℕ) (head : Head bytes) (run : Run) (hosted : (k : ℕ) 
       i = to_at run k
 
       go : Next n run k i → Fits last_book (rows (call_at n run k i).state) (call_at n run k i).state.count
-      go (stayed idle _) = absurd (not-both e (idle l refl))
+      go (stayed idle _) = absurd (not_both e (idle l refl))
       go (moved w) =
           subst (λ (s : State). Fits last_book (rows s) s.count) (sym w.settles)
           (subst (λ (t : List Block). Fits last_book t u.count) (sym (rows_settled u))
-          (stands-fits v
+          (stands_fits v
           (book-is n honest (table_at n run (length run)) (one_entry (length run)) i u.count (name_of (bytes_at run k)) _ hi
-          (grown-stands grown u.count v.held v))))
+          (grown_stands grown u.count v.held v))))
         where
           u : State
           u = effect_at n run k i
 
           v : Stands (rows u) u.count (name_of (bytes_at run k)) (entry (content_of (state_at n run k i) (bytes_at run k)))
-          v = new-stands (proper k i hi.0) (bytes_at run k) (after k i hi.0 w) adds
+          v = new_stands (proper k i hi.0) (bytes_at run k) (after k i hi.0 w) adds
 
           grown : Grown (rows u) (table_at n run (length run) i)
           grown =
               subst (λ (t : List Block). Grown t (table_at n run (length run) i)) (ap rows w.later ∙ rows_settled u)
-              (tables-grow n i head.some most hi.0 run (suc k) (length run) l)
+              (tables_grow n i head.some most hi.0 run (suc k) (length run) l)
 
   -- the premises event by event
   pub each-taken : EachTaken n honest run last_book

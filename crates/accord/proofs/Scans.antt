@@ -7,8 +7,8 @@ use native.Mathlib.Decide.{dec_lt}
 use native.Mathlib.Omega.{arith}
 use borrow.Author.Count.{below_more}
 use Rattle.table.specs.Scan.{lowest}
-use Rattle.table.proofs.Laws.{not-both, lowest-below}
-use Rattle.pala.proofs.Tests.{nor-l, nor-r, or_cases}
+use Rattle.table.proofs.Laws.{not_both, lowest_below}
+use Rattle.pala.proofs.Tests.{nor_l, nor_r, or_cases}
 use Rattle.accord.specs.Rulings.{any_below}
 
 -- where none passes, each fails
@@ -16,19 +16,19 @@ pub any_none : (k : ℕ) (ok : ℕ → Bool) → any_below k ok ≡ false → (i
 unfolding any_below
 any_none zero ok h i l = absurd (omega arith)
 any_none (suc k) ok h i l =
-    below_more (λ j. ok j ≡ false) k (any_none k ok (nor-l (any_below k ok) (ok k) h)) (nor-r (any_below k ok) (ok k) h) i (omega arith)
+    below_more (λ j. ok j ≡ false) k (any_none k ok (nor_l (any_below k ok) (ok k) h)) (nor_r (any_below k ok) (ok k) h) i (omega arith)
 
 -- where one passes, here it is
-pub any-hit : (k : ℕ) (ok : ℕ → Bool) → any_below k ok ≡ true → (i : ℕ) × (i < k) × (ok i ≡ true)
+pub any_hit : (k : ℕ) (ok : ℕ → Bool) → any_below k ok ≡ true → (i : ℕ) × (i < k) × (ok i ≡ true)
 unfolding any_below
-any-hit zero ok h = absurd (not-both h refl)
-any-hit (suc k) ok h = go (any-hit k ok) (or_cases (any_below k ok) (ok k) h)
+any_hit zero ok h = absurd (not_both h refl)
+any_hit (suc k) ok h = go (any_hit k ok) (or_cases (any_below k ok) (ok k) h)
   where
     go : (any_below k ok ≡ true → (i : ℕ) × (i < k) × (ok i ≡ true)) → (any_below k ok ≡ true) ⊎ (ok k ≡ true) → (i : ℕ) × (i < suc k) × (ok i ≡ true)
     go ih (inl e) = let (i, l, y) = ih e in (i, omega arith, y)
     go ih (inr e) = (k, omega arith, e)
 
 -- where one passes, the lowest is found
-pub lowest-within : (k : ℕ) (ok : ℕ → Bool) (i : ℕ) → i < k → ok i ≡ true → lowest k ok < k
-lowest-within k ok i l h =
-    elim (dec_lt (lowest k ok) k) [ yes m ↦ m | no m ↦ absurd (not-both h (lowest-below k ok i (omega arith))) ]
+pub lowest_within : (k : ℕ) (ok : ℕ → Bool) (i : ℕ) → i < k → ok i ≡ true → lowest k ok < k
+lowest_within k ok i l h =
+    elim (dec_lt (lowest k ok) k) [ yes m ↦ m | no m ↦ absurd (not_both h (lowest_below k ok i (omega arith))) ]

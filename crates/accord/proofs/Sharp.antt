@@ -15,9 +15,9 @@ use Rattle.accord.specs.Text.{hall_played}
 use Rattle.accord.specs.NeverNo.{FewHead}
 
 -- four nodes with one faulty, eight with two
-few-heads : FewHead (4 ∷ 7 ∷ []) × FewHead (8 ∷ 63 ∷ [])
+few_heads : FewHead (4 ∷ 7 ∷ []) × FewHead (8 ∷ 63 ∷ [])
 unfolding good_head in_set count pick
-few-heads = (record { good = refl; few = omega arith }, record { good = refl; few = omega arith })
+few_heads = (record { good = refl; few = omega arith }, record { good = refl; few = omega arith })
 
 abbrev B' : List ℕ
 B' = letter 0x1B
@@ -39,10 +39,10 @@ forking =
     ∷ (0 ∷ hear 1 4 Y X) ∷ (0 ∷ cast_by 0) ∷ (0 ∷ vote 1 Y)
     ∷ []
 
-says-no-at-a-third :
+says_no_at_a_third :
     (good_head (3 ∷ 5 ∷ []) ≡ true)
     × (agree (hall_played (fresh_hall (3 ∷ 5 ∷ [])) forking) ≡ false)
     × (list_of (hall_played (fresh_hall (3 ∷ 5 ∷ [])) forking) 0 ≡ X)
     × (list_of (hall_played (fresh_hall (3 ∷ 5 ∷ [])) forking) 2 ≡ A')
 unfolding good_head agree hall_played fresh_hall forking list_of
-says-no-at-a-third = (refl, refl, refl, refl)
+says_no_at_a_third = (refl, refl, refl, refl)

@@ -56,9 +56,9 @@ module _ (n own : ℕ) (records list : List ℕ) where
         (le-ltb (length list) full_list big)
 
     -- "15 as above"
-    pub run-setup : nodes n own ≡ false → run n own records list ≡ record { code = 983040; list = list }
+    pub run_setup : nodes n own ≡ false → run n own records list ≡ record { code = 983040; list = list }
     unfolding ran run_code pick taken number run_answer lowest_of wrong
-    run-setup h = answered Answer.Setup (pick_no wrong Answer.Length _ right ∙ pick_yes (not (nodes n own)) Answer.Setup _ (ap not h))
+    run_setup h = answered Answer.Setup (pick_no wrong Answer.Length _ right ∙ pick_yes (not (nodes n own)) Answer.Setup _ (ap not h))
 
     -- the list that is written is the final list after the records were played
     pub run-taken :

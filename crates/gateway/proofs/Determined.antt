@@ -5,9 +5,9 @@ use Rattle.gateway.proofs.oanhvidet_run.Reads as oanhvidet-run
 use Rattle.pala.specs.Run.{Ran}
 use Rattle.table.proofs.Laws.{one-outcome}
 
-oanhvidet-relation-one : (κs : _) (a : _) (r q : _) (s t : _) → oanhvidet-relation.Post κs a r s → oanhvidet-relation.Post κs a q t → r ≡ q
-oanhvidet-relation-one κs a r q s t = one-outcome
+oanhvidet_relation-one : (κs : _) (a : _) (r q : _) (s t : _) → oanhvidet-relation.Post κs a r s → oanhvidet-relation.Post κs a q t → r ≡ q
+oanhvidet_relation-one κs a r q s t = one-outcome
 
-oanhvidet-run-one : (κs : _) (a : _) (r q : _) (s t : _) → oanhvidet-run.Post κs a r s → oanhvidet-run.Post κs a q t → (r ≡ q) × (s.1.1.1.0.now ≡ t.1.1.1.0.now)
-oanhvidet-run-one κs a r q s t p h =
+oanhvidet_run-one : (κs : _) (a : _) (r q : _) (s t : _) → oanhvidet-run.Post κs a r s → oanhvidet-run.Post κs a q t → (r ≡ q) × (s.1.1.1.0.now ≡ t.1.1.1.0.now)
+oanhvidet_run-one κs a r q s t p h =
     (ap (λ (o : Ran). o.code) (one-outcome p h), ap (λ (o : Ran). o.list) (one-outcome p h))

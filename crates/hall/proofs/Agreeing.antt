@@ -14,7 +14,7 @@ use lib.Seq.{get_or-take, get_or-set_same, get_or-set_other, length-take-le}
 use Rattle.table.specs.declared.State.{State}
 use Rattle.table.specs.Rows.{capacity, name_bytes}
 use Rattle.table.specs.Scan.{all_below}
-use Rattle.table.proofs.Laws.{not-both, same_test, all_below-at, all_below-all, same-all, same_true}
+use Rattle.table.proofs.Laws.{not_both, same_test, all_below-at, all_below_all, same_all, same_true}
 use Rattle.pala.specs.Lists.{final_names, joined}
 use Rattle.pala.specs.Run.{full_list}
 use Rattle.pala.proofs.Shapes
@@ -25,23 +25,23 @@ use Rattle.accord.specs.declared.Hall.{Hall}
 use Rattle.accord.specs.Head.{most_gateways, gateway, honest_in}
 use Rattle.accord.specs.Rulings.{seated}
 use Rattle.accord.specs.Words.{list_of, begins, one_begins, agree}
-use Rattle.accord.proofs.Halls.{seated-same, seated-other}
+use Rattle.accord.proofs.Halls.{seated-same, seated_other}
 use Rattle.hall.specs.Kept.{Kept}
 use Rattle.hall.specs.Lists.{Fit, Listed, agree_in, begun, list_at, lists_bytes}
-use Rattle.hall.proofs.Parts.{below_alike, part-here, part-before, part-after}
-use Rattle.hall.proofs.Seated.{honest-same, kept-seat}
+use Rattle.hall.proofs.Parts.{below_alike, part_here, part_before, part_after}
+use Rattle.hall.proofs.Seated.{honest_same, kept_seat}
 
 -- ---- one begins the other
 
 -- by their bytes
-begins-of : (a b : List ℕ) → length a ≤ length b → ((i : ℕ) → i < length a → get_or a i 0 ≡ get_or b i 0) → begins a b ≡ true
+begins_of : (a b : List ℕ) → length a ≤ length b → ((i : ℕ) → i < length a → get_or a i 0 ≡ get_or b i 0) → begins a b ≡ true
 unfolding begins
-begins-of a b l e =
-    same-all a (take (length a) b) (length a) refl (length-take-le (length a) b l) (λ i m. e i m ∙ sym (get_or-take (length a) b i 0 m))
+begins_of a b l e =
+    same_all a (take (length a) b) (length a) refl (length-take-le (length a) b l) (λ i m. e i m ∙ sym (get_or-take (length a) b i 0 m))
 
-begins-byte : (a b : List ℕ) → begins a b ≡ true → (i : ℕ) → i < length a → get_or a i 0 ≡ get_or b i 0
+begins_byte : (a b : List ℕ) → begins a b ≡ true → (i : ℕ) → i < length a → get_or a i 0 ≡ get_or b i 0
 unfolding begins
-begins-byte a b h i m = ap (λ (l : List ℕ). get_or l i 0) (same_true a (take (length a) b) h) ∙ get_or-take (length a) b i 0 m
+begins_byte a b h i m = ap (λ (l : List ℕ). get_or l i 0) (same_true a (take (length a) b) h) ∙ get_or-take (length a) b i 0 m
 
 -- the bytes that both have are the same
 pub one-begins-is : (a b : List ℕ) (end : ℕ) → end ≡ min (length a) (length b) → all_below end (λ i. eqb (get_or a i 0) (get_or b i 0)) ≡ one_begins a b
@@ -52,14 +52,14 @@ one-begins-is a b end e =
     (λ h.
     let byte : (i : ℕ) → i < end → get_or a i 0 ≡ get_or b i 0 = λ i m. eqb-true (get_or a i 0) (get_or b i 0) (all_below-at end ok h i m) in
     elim (dec_le (length a) (length b)) [
-      | yes l ↦ or_l (begins a b) (begins b a) (begins-of a b l (λ i m. byte i (omega arith)))
-      | no l ↦ or_r (begins a b) (begins b a) (begins-of b a (omega arith) (λ i m. sym (byte i (omega arith))))
+      | yes l ↦ or_l (begins a b) (begins b a) (begins_of a b l (λ i m. byte i (omega arith)))
+      | no l ↦ or_r (begins a b) (begins b a) (begins_of b a (omega arith) (λ i m. sym (byte i (omega arith))))
     ])
-    (λ h. all_below-all end ok (λ i m. eq-eqb (get_or a i 0) (get_or b i 0) (byte i (omega arith) (omega arith) (or_cases (begins a b) (begins b a) h))))
+    (λ h. all_below_all end ok (λ i m. eq-eqb (get_or a i 0) (get_or b i 0) (byte i (omega arith) (omega arith) (or_cases (begins a b) (begins b a) h))))
   where
     byte : (i : ℕ) → i < length a → i < length b → (begins a b ≡ true) ⊎ (begins b a ≡ true) → get_or a i 0 ≡ get_or b i 0
-    byte i l m (inl h) = begins-byte a b h i l
-    byte i l m (inr h) = sym (begins-byte b a h i m)
+    byte i l m (inl h) = begins_byte a b h i l
+    byte i l m (inr h) = sym (begins_byte b a h i m)
 
 -- ---- of two numbers
 
@@ -69,30 +69,30 @@ module _ (lists counts : List ℕ) (honest : List Bool) (i j : ℕ) where
   unfolding begun
   begun-not f = ap (λ t. not t || one_begins (list_at lists counts i) (list_at lists counts j)) f
 
-  begun-lists : get_or honest i false ≡ true → get_or honest j false ≡ true
+  begun_lists : get_or honest i false ≡ true → get_or honest j false ≡ true
       → begun lists counts honest i j ≡ one_begins (list_at lists counts i) (list_at lists counts j)
   unfolding begun
-  begun-lists a b =
+  begun_lists a b =
       ap (λ t. not t || one_begins (list_at lists counts i) (list_at lists counts j)) (Shapes.and_both (get_or honest i false) (get_or honest j false) a b)
 
   -- .. each read as the part of its room that its count tells
-  pub begun-read : {r : Bool} {k m : ℕ} → k ≡ name_bytes * get_or counts i 0 → m ≡ name_bytes * get_or counts j 0
+  pub begun_read : {r : Bool} {k m : ℕ} → k ≡ name_bytes * get_or counts i 0 → m ≡ name_bytes * get_or counts j 0
       → get_or honest i false ≡ true → get_or honest j false ≡ true
       → r ≡ one_begins (take (full_list * i + k - full_list * i) (drop (full_list * i) lists)) (take (full_list * j + m - full_list * j) (drop (full_list * j) lists))
       → r ≡ begun lists counts honest i j
-  begun-read {r} {k} {m} e f a b told =
+  begun_read {r} {k} {m} e f a b told =
       let first : full_list * i + k - full_list * i ≡ name_bytes * get_or counts i 0 = omega arith in
       let second : full_list * j + m - full_list * j ≡ name_bytes * get_or counts j 0 = omega arith in
       told
       ∙ ap₂ (λ x y. one_begins (take x (drop (full_list * i) lists)) (take y (drop (full_list * j) lists))) first second
-      ∙ sym (begun-lists a b)
+      ∙ sym (begun_lists a b)
 
 -- ---- the whole
 
 -- one who isn't honest agrees with all before
-pub begun-none : (lists counts : List ℕ) (honest : List Bool) (i : ℕ) → get_or honest i false ≡ false → all_below i (begun lists counts honest i) ≡ true
-begun-none lists counts honest i f =
-    all_below-all i (begun lists counts honest i) (λ j _. begun-not lists counts honest i j (ap (λ t. t && get_or honest j false) f))
+pub begun_none : (lists counts : List ℕ) (honest : List Bool) (i : ℕ) → get_or honest i false ≡ false → all_below i (begun lists counts honest i) ≡ true
+begun_none lists counts honest i f =
+    all_below_all i (begun lists counts honest i) (λ j _. begun-not lists counts honest i j (ap (λ t. t && get_or honest j false) f))
 
 module _ {h : Hall} {lists counts : List ℕ} (w : Listed h lists counts) where
   -- what stands in the bytes is asked of the lists themselves
@@ -116,22 +116,22 @@ module _ {h : Hall} {lists counts : List ℕ} (w : Listed h lists counts) where
 -- names of 32 bytes each, written into the room of gateway i
 module _ (lists counts : List ℕ) (fit : Fit lists counts) (i : ℕ) (l : i < most_gateways) (bytes : List ℕ) (count : ℕ)
     (whole : length bytes ≡ name_bytes * count) (most : count ≤ capacity) where
-  new-counts : List ℕ
-  new-counts = set counts i count
+  new_counts : List ℕ
+  new_counts = set counts i count
 
   inside : full_list * i + length bytes ≤ length lists
   inside = omega (arith, fit.long)
 
-  count-here : get_or new-counts i 0 ≡ count
-  unfolding new-counts
-  count-here = get_or-set_same counts i count 0 (omega (arith, fit.many))
+  count_here : get_or new_counts i 0 ≡ count
+  unfolding new_counts
+  count_here = get_or-set_same counts i count 0 (omega (arith, fit.many))
 
-  count-other : (j : ℕ) → j ≢ i → get_or new-counts j 0 ≡ get_or counts j 0
-  unfolding new-counts
-  count-other j d = get_or-set_other counts i j count 0 d
+  count_other : (j : ℕ) → j ≢ i → get_or new_counts j 0 ≡ get_or counts j 0
+  unfolding new_counts
+  count_other j d = get_or-set_other counts i j count 0 d
 
   pub fit_written : Fit (written lists (full_list * i) bytes) (set counts i count)
-  unfolding new-counts
+  unfolding new_counts
   fit_written =
       record {
         long = length-written lists (full_list * i) bytes inside ∙ fit.long;
@@ -139,26 +139,26 @@ module _ (lists counts : List ℕ) (fit : Fit lists counts) (i : ℕ) (l : i < m
         most = λ j m. few j m (ℕ_discrete j i);
       }
     where
-      few : (j : ℕ) → j < most_gateways → Dec (j ≡ i) → get_or new-counts j 0 ≤ capacity
-      few j m (yes e) = omega (arith, ap (λ k. get_or new-counts k 0) e, count-here)
-      few j m (no d) = omega (arith, count-other j d, fit.most j m)
+      few : (j : ℕ) → j < most_gateways → Dec (j ≡ i) → get_or new_counts j 0 ≤ capacity
+      few j m (yes e) = omega (arith, ap (λ k. get_or new_counts k 0) e, count_here)
+      few j m (no d) = omega (arith, count_other j d, fit.most j m)
 
-  pub list-here : list_at (written lists (full_list * i) bytes) (set counts i count) i ≡ bytes
-  unfolding new-counts
-  list-here =
-      let ends : name_bytes * get_or new-counts i 0 ≡ length bytes = omega (arith, count-here) in
+  pub list_here : list_at (written lists (full_list * i) bytes) (set counts i count) i ≡ bytes
+  unfolding new_counts
+  list_here =
+      let ends : name_bytes * get_or new_counts i 0 ≡ length bytes = omega (arith, count_here) in
       ap (λ k. take k (drop (full_list * i) (written lists (full_list * i) bytes))) ends
-      ∙ part-here lists (full_list * i) bytes inside
+      ∙ part_here lists (full_list * i) bytes inside
 
-  pub list-other : (j : ℕ) → j < most_gateways → j ≢ i → list_at (written lists (full_list * i) bytes) (set counts i count) j ≡ list_at lists counts j
-  unfolding new-counts
-  list-other j m d =
+  pub list_other : (j : ℕ) → j < most_gateways → j ≢ i → list_at (written lists (full_list * i) bytes) (set counts i count) j ≡ list_at lists counts j
+  unfolding new_counts
+  list_other j m d =
       let size : ℕ = name_bytes * get_or counts j 0 in
       let few : size ≤ full_list = omega (arith, fit.most j m) in
-      ap (λ k. take (name_bytes * k) (drop (full_list * j) (written lists (full_list * i) bytes))) (count-other j d)
+      ap (λ k. take (name_bytes * k) (drop (full_list * j) (written lists (full_list * i) bytes))) (count_other j d)
       ∙ elim (dec_lt j i) [
-        | yes a ↦ part-before lists (full_list * i) bytes inside (full_list * j) size (omega arith)
-        | no a ↦ ap (take size) (part-after lists (full_list * i) bytes inside (full_list * j) (omega arith))
+        | yes a ↦ part_before lists (full_list * i) bytes inside (full_list * j) size (omega arith)
+        | no a ↦ ap (take size) (part_after lists (full_list * i) bytes inside (full_list * j) (omega arith))
       ]
 
 -- ---- one gateway after the other
@@ -169,23 +169,23 @@ pub record ListedTo (h : Hall) (k : ℕ) (lists counts : List ℕ) : Type 0 wher
   pub held : (i : ℕ) → i < k → honest_in h i ≡ true → list_at lists counts i ≡ list_of h i
 
 -- the same bytes and counts, otherwise worded
-pub listed-as : {h : Hall} {k : ℕ} {lists counts after new : List ℕ} → after ≡ lists → new ≡ counts → ListedTo h k lists counts → ListedTo h k after new
-listed-as {h} {k} {lists} {new = new} e f w = subst (λ x. ListedTo h k x new) (sym e) (subst (λ x. ListedTo h k lists x) (sym f) w)
+pub listed_as : {h : Hall} {k : ℕ} {lists counts after new : List ℕ} → after ≡ lists → new ≡ counts → ListedTo h k lists counts → ListedTo h k after new
+listed_as {h} {k} {lists} {new = new} e f w = subst (λ x. ListedTo h k x new) (sym e) (subst (λ x. ListedTo h k lists x) (sym f) w)
 
-pub listed-none : {h : Hall} {lists : List ℕ} → length lists ≡ lists_bytes → ListedTo h 0 lists (replicate most_gateways 0)
-listed-none e =
+pub listed_none : {h : Hall} {lists : List ℕ} → length lists ≡ lists_bytes → ListedTo h 0 lists (replicate most_gateways 0)
+listed_none e =
     record {
       fit = record { long = e; many = refl; most = λ i l. omega (arith, get_or-replicate {A = ℕ} most_gateways i 0 0 l) };
       held = λ i l. absurd (omega arith);
     }
 
 module _ {h : Hall} {lists counts : List ℕ} {i : ℕ} (w : ListedTo h i lists counts) where
-  pub listed-all : i ≡ most_gateways → Listed h lists counts
-  listed-all e = record { fit = w.fit; held = λ j l. w.held j (omega arith) }
+  pub listed_all : i ≡ most_gateways → Listed h lists counts
+  listed_all e = record { fit = w.fit; held = λ j l. w.held j (omega arith) }
 
   -- one who isn't honest is passed over
-  pub listed-silent : honest_in h i ≡ false → ListedTo h (i + 1) lists counts
-  listed-silent f = record { fit = w.fit; held = below_more (λ j. honest_in h j ≡ true → list_at lists counts j ≡ list_of h j) i w.held (λ y. absurd (not-both y f)) }
+  pub listed_silent : honest_in h i ≡ false → ListedTo h (i + 1) lists counts
+  listed_silent f = record { fit = w.fit; held = below_more (λ j. honest_in h j ≡ true → list_at lists counts j ≡ list_of h j) i w.held (λ y. absurd (not_both y f)) }
 
   -- .. and the list of one whose state is s is written
   pub listed_more : (s : State) (count : ℕ) → s ≡ gateway h i → i < most_gateways → count ≤ capacity → length (joined (final_names s)) ≡ name_bytes * count
@@ -197,8 +197,8 @@ module _ {h : Hall} {lists counts : List ℕ} {i : ℕ} (w : ListedTo h i lists 
         fit = fit_written lists counts w.fit i l bytes count whole most;
         held =
             below_more (λ j. honest_in h j ≡ true → list_at (written lists (full_list * i) bytes) (set counts i count) j ≡ list_of h j) i
-            (λ j m y. list-other lists counts w.fit i l bytes count whole most j (omega arith) (λ e. omega arith) ∙ w.held j m y)
-            (λ y. list-here lists counts w.fit i l bytes count whole most ∙ ap (λ x. joined (final_names x)) at);
+            (λ j m y. list_other lists counts w.fit i l bytes count whole most j (omega arith) (λ e. omega arith) ∙ w.held j m y)
+            (λ y. list_here lists counts w.fit i l bytes count whole most ∙ ap (λ x. joined (final_names x)) at);
       }
 
 -- ---- one gateway's state moved
@@ -206,11 +206,11 @@ module _ {h : Hall} {lists counts : List ℕ} {i : ℕ} (w : ListedTo h i lists 
 module _ {h : Hall} {lists counts : List ℕ} (k : Kept h) (w : Listed h lists counts) (i : ℕ) (l : i < h.n) (t : State) where
   list-new : list_of (seated h i t) i ≡ joined (final_names t)
   unfolding list_of
-  list-new = ap (λ s. joined (final_names s)) (seated-same h i t (kept-seat k i l))
+  list-new = ap (λ s. joined (final_names s)) (seated-same h i t (kept_seat k i l))
 
-  list-old : (j : ℕ) → j ≢ i → list_of (seated h i t) j ≡ list_of h j
+  list_old : (j : ℕ) → j ≢ i → list_of (seated h i t) j ≡ list_of h j
   unfolding list_of
-  list-old j d = ap (λ s. joined (final_names s)) (seated-other h i t j d)
+  list_old j d = ap (λ s. joined (final_names s)) (seated_other h i t j d)
 
   -- its final list is written, and no other's changes
   pub listed-written : {count : ℕ} → count ≤ capacity → length (joined (final_names t)) ≡ name_bytes * count
@@ -227,11 +227,11 @@ module _ {h : Hall} {lists counts : List ℕ} (k : Kept h) (w : Listed h lists c
           → list_at (written lists (full_list * i) bytes) (set counts i count) j ≡ list_of (seated h i t) j
       held j m y (yes e) =
           subst (λ x. list_at (written lists (full_list * i) bytes) (set counts i count) x ≡ list_of (seated h i t) x) (sym e)
-          (list-here lists counts w.fit i low bytes count whole most ∙ sym list-new)
+          (list_here lists counts w.fit i low bytes count whole most ∙ sym list-new)
       held j m y (no d) =
-          list-other lists counts w.fit i low bytes count whole most j m d
-          ∙ w.held j m (sym (honest-same h i t j) ∙ y)
-          ∙ sym (list-old j d)
+          list_other lists counts w.fit i low bytes count whole most j m d
+          ∙ w.held j m (sym (honest_same h i t j) ∙ y)
+          ∙ sym (list_old j d)
 
   module _ (same : final_names t ≡ final_names (gateway h i)) where
     list_same : (j : ℕ) → list_of (seated h i t) j ≡ list_of h j
@@ -239,12 +239,12 @@ module _ {h : Hall} {lists counts : List ℕ} (k : Kept h) (w : Listed h lists c
     list_same j =
         elim (ℕ_discrete j i) [
           | yes e ↦ subst (λ x. list_of (seated h i t) x ≡ list_of h x) (sym e) (list-new ∙ ap joined same)
-          | no d ↦ list-old j d
+          | no d ↦ list_old j d
         ]
 
     -- the final names stay, and so does what stands in the bytes ..
     pub listed_same : Listed (seated h i t) lists counts
-    listed_same = record { fit = w.fit; held = λ j m y. w.held j m (sym (honest-same h i t j) ∙ y) ∙ sym (list_same j) }
+    listed_same = record { fit = w.fit; held = λ j m y. w.held j m (sym (honest_same h i t j) ∙ y) ∙ sym (list_same j) }
 
     -- .. and yes or no
     pub agree_same : agree (seated h i t) ≡ agree h

@@ -28,22 +28,22 @@ module _ (h : Hall) (before : ℕ) (input text : List ℕ) where
   abbrev pub handed_back : Answer → HallPiece
   handed_back a = record { answer = a; hall = h; before = before; length = 0; text = text }
 
-  pub piece-unshaped : hall_shaped h ≡ false → play_hall h before input text ≡ handed_back Answer.State
+  pub piece_unshaped : hall_shaped h ≡ false → play_hall h before input text ≡ handed_back Answer.State
   unfolding play_hall hall_answer lowest_of hall_piece pick taken number
-  piece-unshaped e = ap (λ (a : Answer). hall_piece a h before input text) (pick_yes (not (hall_shaped h)) Answer.State _ (ap not e))
+  piece_unshaped e = ap (λ (a : Answer). hall_piece a h before input text) (pick_yes (not (hall_shaped h)) Answer.State _ (ap not e))
 
   module _ (e : hall_shaped h ≡ true) where
-    pub piece-short : length text < hall_line_most * length (cut sent_bytes input) → play_hall h before input text ≡ handed_back Answer.Length
+    pub piece_short : length text < hall_line_most * length (cut sent_bytes input) → play_hall h before input text ≡ handed_back Answer.Length
     unfolding play_hall hall_answer lowest_of hall_piece pick taken number
-    piece-short l =
+    piece_short l =
         ap (λ (a : Answer). hall_piece a h before input text)
         (pick_no (not (hall_shaped h)) Answer.State _ (ap not e)
         ∙ pick_yes (ltb (length text) (hall_line_most * length (cut sent_bytes input))) Answer.Length _ (lt-ltb _ _ l))
 
     module _ (fits : hall_line_most * length (cut sent_bytes input) ≤ length text) where
-      pub piece-over : last_number < before + length (cut sent_bytes input) → play_hall h before input text ≡ handed_back Answer.Full
+      pub piece_over : last_number < before + length (cut sent_bytes input) → play_hall h before input text ≡ handed_back Answer.Full
       unfolding play_hall hall_answer lowest_of hall_piece pick taken number
-      piece-over l =
+      piece_over l =
           ap (λ (a : Answer). hall_piece a h before input text)
           (pick_no (not (hall_shaped h)) Answer.State _ (ap not e)
           ∙ pick_no (ltb (length text) (hall_line_most * length (cut sent_bytes input))) Answer.Length _ (le-ltb _ _ fits)

@@ -13,7 +13,7 @@ use Rattle.table.specs.declared.Block.{Block}
 use Rattle.table.specs.declared.State.{State}
 use Rattle.table.specs.Scan.{pick}
 use Rattle.table.specs.Rows.{capacity, all_zero, rows, at, has_voter}
-use Rattle.table.proofs.Laws.{not-both, fails, pick_yes, pick_no, get_d_any}
+use Rattle.table.proofs.Laws.{not_both, fails, pick_yes, pick_no, get_d_any}
 use Rattle.pala.specs.Record.{record_bytes, proposal_heard}
 use Rattle.pala.specs.Rules.{epoch_at, parent_of}
 use Rattle.pala.proofs.Shapes.{shaped-count}
@@ -43,11 +43,11 @@ module _ (h : Hall) (i p : ℕ) where
   pub held-past : (gateway h i).count < p → held_row h i p ≡ no_row
   unfolding held_row
   held-past l =
-      pick_no _ _ _ (fails _ (λ e. not-both (and_r (honest_in h i) (leb p (gateway h i).count) e) (lt-leb p (gateway h i).count l)))
+      pick_no _ _ _ (fails _ (λ e. not_both (and_r (honest_in h i) (leb p (gateway h i).count) e) (lt-leb p (gateway h i).count l)))
 
-  pub held-faulty : honest_in h i ≡ false → held_row h i p ≡ no_row
+  pub held_faulty : honest_in h i ≡ false → held_row h i p ≡ no_row
   unfolding held_row
-  held-faulty k = pick_no _ _ _ (ap (λ (x : Bool). x && leb p (gateway h i).count) k)
+  held_faulty k = pick_no _ _ _ (ap (λ (x : Bool). x && leb p (gateway h i).count) k)
 
 -- ---- one gateway
 
@@ -57,15 +57,15 @@ pub record Entered (before : List ℕ) (i : ℕ) (s : State) (p : ℕ) (book : L
   pub done : (q : ℕ) → 0 < q → q < p → row_at book (row_of i q) ≡ block_row (rows s) i q
   pub kept : (e : ℕ) → (e < capacity * i) ⊎ (capacity * i + p ≤ suc e) → row_at book e ≡ row_at before e
 
-pub entered-none : (book : List ℕ) (i : ℕ) (s : State) → length book ≡ book_bytes → Entered book i s 1 book
-entered-none book i s l = record { long = l; done = λ q pos m. absurd (omega arith); kept = λ e m. refl }
+pub entered_none : (book : List ℕ) (i : ℕ) (s : State) → length book ≡ book_bytes → Entered book i s 1 book
+entered_none book i s l = record { long = l; done = λ q pos m. absurd (omega arith); kept = λ e m. refl }
 
 -- one row more
-pub entered-more :
+pub entered_more :
     {before book after : List ℕ} {i : ℕ} {s : State} {p : ℕ} → Entered before i s p book → i < most_gateways → 0 < p → p ≤ capacity
     → length (block_row (rows s) i p) ≡ record_bytes → after ≡ written book (record_bytes * row_of i p) (block_row (rows s) i p)
     → Entered before i s (p + 1) after
-entered-more {before} {book} {after} {i} {s} {p} w low pos most whole e =
+entered_more {before} {book} {after} {i} {s} {p} w low pos most whole e =
     let fits : record_bytes * row_of i p + record_bytes ≤ length book = omega (arith, w.long) in
     let row = block_row (rows s) i p in
     record {
@@ -109,14 +109,14 @@ filled_none h book e =
     }
 
 -- one gateway more: of one that isn't honest there is nothing to write
-pub filled-skip : {h : Hall} {i : ℕ} {book : List ℕ} → Filled h i book → i < most_gateways → honest_in h i ≡ false → Filled h (i + 1) book
-filled-skip {h} {i} {book} w low k =
+pub filled_skip : {h : Hall} {i : ℕ} {book : List ℕ} → Filled h i book → i < most_gateways → honest_in h i ≡ false → Filled h (i + 1) book
+filled_skip {h} {i} {book} w low k =
     record {
       long = w.long;
       done =
           λ j p l pos most.
           elim (ℕ_discrete j i) [
-            | yes d ↦ w.rest j p (omega arith) (omega arith) pos most ∙ sym (held-faulty h j p (ap (honest_in h) d ∙ k))
+            | yes d ↦ w.rest j p (omega arith) (omega arith) pos most ∙ sym (held_faulty h j p (ap (honest_in h) d ∙ k))
             | no d ↦ w.done j p (omega arith) pos most
           ];
       rest = λ j p l. w.rest j p (omega arith);
@@ -125,44 +125,44 @@ filled-skip {h} {i} {book} w low k =
 -- .. and of an honest one every block's row
 module _ {h : Hall} (k : Kept h) where
   -- the state of a seat is its gateway's
-  pub seat-is : (i : ℕ) (d : State) → i < most_gateways → get_or h.states i d ≡ gateway h i
+  pub seat_is : (i : ℕ) (d : State) → i < most_gateways → get_or h.states i d ≡ gateway h i
   unfolding gateway
-  seat-is i d l = get_d_any h.states i d all_zero (omega (arith, k.seats))
+  seat_is i d l = get_d_any h.states i d all_zero (omega (arith, k.seats))
 
-  pub honest-count : (i : ℕ) → honest_in h i ≡ true → (gateway h i).count ≤ capacity
-  honest-count i e = shaped-count (gateway h i) (k.shaped i (k.low i e))
+  pub honest_count : (i : ℕ) → honest_in h i ≡ true → (gateway h i).count ≤ capacity
+  honest_count i e = shaped-count (gateway h i) (k.shaped i (k.low i e))
 
-  pub seat-low : (i : ℕ) (d : State) → i < most_gateways → honest_in h i ≡ true → (get_or h.states i d).count ≤ capacity
-  seat-low i d l e = subst (λ (s : State). s.count ≤ capacity) (sym (seat-is i d l)) (honest-count i e)
+  pub seat_low : (i : ℕ) (d : State) → i < most_gateways → honest_in h i ≡ true → (get_or h.states i d).count ≤ capacity
+  seat_low i d l e = subst (λ (s : State). s.count ≤ capacity) (sym (seat_is i d l)) (honest_count i e)
 
   module _ {i : ℕ} {book after : List ℕ} (w : Filled h i book) (low : i < most_gateways) (e : honest_in h i ≡ true) where
-    this-row : Paged book i (gateway h i) after → (p : ℕ) → 1 ≤ p → p ≤ capacity → row_at after (row_of i p) ≡ held_row h i p
+    this_row : Paged book i (gateway h i) after → (p : ℕ) → 1 ≤ p → p ≤ capacity → row_at after (row_of i p) ≡ held_row h i p
     unfolding table_of
-    this-row new p pos m =
+    this_row new p pos m =
         elim (dec_lt (gateway h i).count p) [
           | yes l ↦ new.kept (row_of i p) (inr (omega arith)) ∙ w.rest i p (omega arith) low pos m ∙ sym (held-past h i p l)
           | no l ↦ new.done p pos (omega arith) ∙ sym (held-block h i p e (omega arith))
         ]
 
-    filled-page : Paged book i (gateway h i) after → Filled h (i + 1) after
-    filled-page new =
+    filled_page : Paged book i (gateway h i) after → Filled h (i + 1) after
+    filled_page new =
         record {
           long = new.long;
           done =
               λ j p l pos m.
               elim (ℕ_discrete j i) [
-                | yes d ↦ subst (λ (x : ℕ). row_at after (row_of x p) ≡ held_row h x p) (sym d) (this-row new p pos m)
+                | yes d ↦ subst (λ (x : ℕ). row_at after (row_of x p) ≡ held_row h x p) (sym d) (this_row new p pos m)
                 | no d ↦ new.kept (row_of j p) (inl (omega arith)) ∙ w.done j p (omega arith) pos m
               ];
-          rest = λ j p l below pos m. new.kept (row_of j p) (inr (omega (arith, honest-count i e))) ∙ w.rest j p (omega arith) below pos m;
+          rest = λ j p l below pos m. new.kept (row_of j p) (inr (omega (arith, honest_count i e))) ∙ w.rest j p (omega arith) below pos m;
         }
 
     pub filled_more : (d : State) → Paged book i (get_or h.states i d) after → Filled h (i + 1) after
-    filled_more d new = filled-page (subst (λ (s : State). Paged book i s after) (seat-is i d low) new)
+    filled_more d new = filled_page (subst (λ (s : State). Paged book i s after) (seat_is i d low) new)
 
-  pub filled-all : {i : ℕ} {book : List ℕ} → Filled h i book → most_gateways ≤ i
+  pub filled_all : {i : ℕ} {book : List ℕ} → Filled h i book → most_gateways ≤ i
       → ((j : ℕ) → j < length h.states → 0 < length (gateway h j).blocks → (p : ℕ) → Whole (at (table_of h j) p)) → Pages h book
-  filled-all w e whole =
+  filled_all w e whole =
       record {
         long = w.long;
         sized = λ j p l. whole j (omega (arith, k.seats, k.most, k.low j l)) (omega (arith, k.places j (k.low j l))) p;

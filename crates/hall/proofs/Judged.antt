@@ -21,13 +21,13 @@ use Rattle.hall.specs.Book.{clash_in, shown_in}
 use Rattle.hall.specs.Judged.{forged_in, clashed_in, judged, judged_own}
 
 -- a test that is asked of one kind only
-kind-yes : (kind j : ℕ) (b : Bool) → kind ≡ j → (eqb kind j && b) ≡ b
-kind-yes kind j b e = ap (λ (t : Bool). t && b) (eq-eqb kind j e)
+kind_yes : (kind j : ℕ) (b : Bool) → kind ≡ j → (eqb kind j && b) ≡ b
+kind_yes kind j b e = ap (λ (t : Bool). t && b) (eq-eqb kind j e)
 
-kind-no : (kind j : ℕ) (b : Bool) → (kind ≡ j → b ≡ false) → (eqb kind j && b) ≡ false
-kind-no kind j b e =
+kind_no : (kind j : ℕ) (b : Bool) → (kind ≡ j → b ≡ false) → (eqb kind j && b) ≡ false
+kind_no kind j b e =
     elim (ℕ_discrete kind j) [
-      | yes h ↦ kind-yes kind j b h ∙ e h
+      | yes h ↦ kind_yes kind j b h ∙ e h
       | no h ↦ ap (λ (t : Bool). t && b) (ne_eqb kind j h)
     ]
 
@@ -47,25 +47,25 @@ module _ (book : List ℕ) (honest : List Bool) (to : ℕ) (d : Decision) where
   abbrev pub clashes : Bool
   clashes = clashed_in book d.fields d.fields.epoch.0 d.fields.parent
 
-  pub judged-stranger : get_or honest to false ≡ false → 20 ≡ judged book honest to d
+  pub judged_stranger : get_or honest to false ≡ false → 20 ≡ judged book honest to d
   unfolding judged verdict_number
-  judged-stranger f = sym (pick_yes (not (get_or honest to false)) _ _ (ap not f))
+  judged_stranger f = sym (pick_yes (not (get_or honest to false)) _ _ (ap not f))
 
   module _ (y : get_or honest to false ≡ true) where
-    forged-by : forged_in book honest d.fields ≡ (eqb d.fields.kind vote_heard && unshown)
+    forged_by : forged_in book honest d.fields ≡ (eqb d.fields.kind vote_heard && unshown)
     unfolding forged_in
-    forged-by = and_assoc (eqb d.fields.kind vote_heard) _ _
+    forged_by = and_assoc (eqb d.fields.kind vote_heard) _ _
 
     pub judged-forged : d.fields.kind ≡ vote_heard → unshown ≡ true → 21 ≡ judged book honest to d
     unfolding judged verdict_number
     judged-forged e f =
         sym
         (pick_no (not (get_or honest to false)) _ _ (ap not y)
-        ∙ pick_yes (forged_in book honest d.fields) _ _ (forged-by ∙ kind-yes d.fields.kind vote_heard unshown e ∙ f))
+        ∙ pick_yes (forged_in book honest d.fields) _ _ (forged_by ∙ kind_yes d.fields.kind vote_heard unshown e ∙ f))
 
     module _ (g : d.fields.kind ≡ vote_heard → unshown ≡ false) where
       genuine : forged_in book honest d.fields ≡ false
-      genuine = forged-by ∙ kind-no d.fields.kind vote_heard unshown g
+      genuine = forged_by ∙ kind_no d.fields.kind vote_heard unshown g
 
       pub judged-clash : d.fields.kind ≡ proposal_heard → clashes ≡ true → 22 ≡ judged book honest to d
       unfolding judged verdict_number
@@ -73,7 +73,7 @@ module _ (book : List ℕ) (honest : List Bool) (to : ℕ) (d : Decision) where
           sym
           (pick_no (not (get_or honest to false)) _ _ (ap not y)
           ∙ pick_no (forged_in book honest d.fields) _ _ genuine
-          ∙ pick_yes (eqb d.fields.kind proposal_heard && clashes) _ _ (kind-yes d.fields.kind proposal_heard clashes e ∙ f))
+          ∙ pick_yes (eqb d.fields.kind proposal_heard && clashes) _ _ (kind_yes d.fields.kind proposal_heard clashes e ∙ f))
 
       pub judged-answer : (d.fields.kind ≡ proposal_heard → clashes ≡ false) → number d.answer ≡ judged book honest to d
       unfolding judged verdict_number
@@ -81,24 +81,24 @@ module _ (book : List ℕ) (honest : List Bool) (to : ℕ) (d : Decision) where
           sym
           (pick_no (not (get_or honest to false)) _ _ (ap not y)
           ∙ pick_no (forged_in book honest d.fields) _ _ genuine
-          ∙ pick_no (eqb d.fields.kind proposal_heard && clashes) _ _ (kind-no d.fields.kind proposal_heard clashes e))
+          ∙ pick_no (eqb d.fields.kind proposal_heard && clashes) _ _ (kind_no d.fields.kind proposal_heard clashes e))
 
 module _ (book : List ℕ) (s : State) (f : Fields) (told : ℕ) where
   -- beside the block that its receiver would add
   abbrev pub clashes_own : Bool
   clashes_own = clashed_in book f s.local.0 (at (rows s) (freshest s.n (rows s))).name
 
-  pub own-stranger : told ≡ 20 → told ≡ judged_own book s f told
+  pub own_stranger : told ≡ 20 → told ≡ judged_own book s f told
   unfolding judged_own verdict_number
-  own-stranger e = sym (pick_yes (eqb told 20) _ _ (eq-eqb told 20 e))
+  own_stranger e = sym (pick_yes (eqb told 20) _ _ (eq-eqb told 20 e))
 
-  pub own-clashes : (told ≡ 20 → ⊥) → clashes_own ≡ true → 22 ≡ judged_own book s f told
+  pub own_clashes : (told ≡ 20 → ⊥) → clashes_own ≡ true → 22 ≡ judged_own book s f told
   unfolding judged_own verdict_number
-  own-clashes d e = sym (pick_no (eqb told 20) _ _ (ne_eqb told 20 d) ∙ pick_yes clashes_own _ _ e)
+  own_clashes d e = sym (pick_no (eqb told 20) _ _ (ne_eqb told 20 d) ∙ pick_yes clashes_own _ _ e)
 
-  pub own-told : (told ≡ 20 → ⊥) → clashes_own ≡ false → told ≡ judged_own book s f told
+  pub own_told : (told ≡ 20 → ⊥) → clashes_own ≡ false → told ≡ judged_own book s f told
   unfolding judged_own verdict_number
-  own-told d e = sym (pick_no (eqb told 20) _ _ (ne_eqb told 20 d) ∙ pick_no clashes_own _ _ e)
+  own_told d e = sym (pick_no (eqb told 20) _ _ (ne_eqb told 20 d) ∙ pick_no clashes_own _ _ e)
 
 -- ---- both
 
@@ -109,10 +109,10 @@ told_by book honest to s d =
     pick (eqb d.fields.kind propose_now) (judged_own book s d.fields (judged book honest to d)) (judged book honest to d)
 
 module _ (book : List ℕ) (honest : List Bool) (to : ℕ) (s : State) (d : Decision) {told : ℕ} (e : told ≡ judged book honest to d) where
-  pub told-own : {last : ℕ} → d.fields.kind ≡ propose_now → last ≡ judged_own book s d.fields told → last ≡ told_by book honest to s d
+  pub told_own : {last : ℕ} → d.fields.kind ≡ propose_now → last ≡ judged_own book s d.fields told → last ≡ told_by book honest to s d
   unfolding told_by
-  told-own k l = l ∙ ap (judged_own book s d.fields) e ∙ sym (pick_yes (eqb d.fields.kind propose_now) _ _ (eq-eqb _ _ k))
+  told_own k l = l ∙ ap (judged_own book s d.fields) e ∙ sym (pick_yes (eqb d.fields.kind propose_now) _ _ (eq-eqb _ _ k))
 
-  pub told-other : (d.fields.kind ≡ propose_now → ⊥) → told ≡ told_by book honest to s d
+  pub told_other : (d.fields.kind ≡ propose_now → ⊥) → told ≡ told_by book honest to s d
   unfolding told_by
-  told-other k = e ∙ sym (pick_no (eqb d.fields.kind propose_now) _ _ (ne_eqb _ _ k))
+  told_other k = e ∙ sym (pick_no (eqb d.fields.kind propose_now) _ _ (ne_eqb _ _ k))

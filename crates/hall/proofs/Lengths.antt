@@ -33,33 +33,33 @@ each_at R d (x ∷ xs) (u ∷ us) s zero l = (u, s.0)
 each_at R d (x ∷ xs) (u ∷ us) s (suc k) l = each_at R d xs us s.1 k (le_of_suc-le-suc l)
 
 -- a block
-block-whole : (b : Block) (vs : List Val) → Is block.the_row b vs → Whole b
-block-whole b vs g =
+block_whole : (b : Block) (vs : List Val) → Is block.the_row b vs → Whole b
+block_whole b vs g =
     record {
       name = g.1.1.0.1.0.1;
       payload = g.1.1.1.0.1.0.1;
     }
 
 -- each row that a state has
-state-whole : (s : State) (vs : List Val) → Is state.the_row s vs → (p : ℕ) → p < length s.blocks → Whole (get_or s.blocks p blank)
-state-whole s vs g p l =
+state_whole : (s : State) (vs : List Val) → Is state.the_row s vs → (p : ℕ) → p < length s.blocks → Whole (get_or s.blocks p blank)
+state_whole s vs g p l =
     let (u, b) = each_at block.the_row blank s.blocks g.1.1.0.0 g.1.1.0.1.1 p l in
-    block-whole (get_or s.blocks p blank) (u ∷ []) b
+    block_whole (get_or s.blocks p blank) (u ∷ []) b
 
 -- so each row of its table, and the root past its end
-pub table-whole : (s : State) (vs : List Val) → Is state.the_row s vs → 0 < length s.blocks → (p : ℕ) → Whole (at (rows s) p)
-table-whole s vs g some p =
+pub table_whole : (s : State) (vs : List Val) → Is state.the_row s vs → 0 < length s.blocks → (p : ℕ) → Whole (at (rows s) p)
+table_whole s vs g some p =
     elim (dec_lt p (size (rows s))) [
       | yes l ↦
           let low : (p ≤ s.count) × (p < length s.blocks) = (omega (arith, size-rows s), omega (arith, size-rows s)) in
-          subst Whole (sym (at_rows s p blank low.0 low.1)) (state-whole s vs g p low.1)
-      | no l ↦ subst Whole (sym (at-past s p blank some (omega arith))) (state-whole s vs g 0 some)
+          subst Whole (sym (at_rows s p blank low.0 low.1)) (state_whole s vs g p low.1)
+      | no l ↦ subst Whole (sym (at-past s p blank some (omega arith))) (state_whole s vs g 0 some)
     ]
 
 -- and of each gateway's
-pub hall-whole : (h : Hall) (vs : List Val) → Is hall.the_row h vs → (i : ℕ) → i < length h.states → 0 < length (gateway h i).blocks
+pub hall_whole : (h : Hall) (vs : List Val) → Is hall.the_row h vs → (i : ℕ) → i < length h.states → 0 < length (gateway h i).blocks
     → (p : ℕ) → Whole (at (table_of h i) p)
 unfolding gateway table_of
-hall-whole h vs g i l =
+hall_whole h vs g i l =
     let (u, s) = each_at state.the_row all_zero h.states g.1.1.0.0 g.1.1.0.1.1 i l in
-    table-whole (get_or h.states i all_zero) (u ∷ []) s
+    table_whole (get_or h.states i all_zero) (u ∷ []) s

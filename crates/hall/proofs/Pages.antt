@@ -13,7 +13,7 @@ use Rattle.table.specs.declared.Block.{Block}
 use Rattle.table.specs.Scan.{pick}
 use Rattle.table.specs.Bytes.{same}
 use Rattle.table.specs.Rows.{capacity, name_bytes, payload_bytes, size, at, has_voter}
-use Rattle.table.proofs.Laws.{not-both, same_test, same_refl, same_true}
+use Rattle.table.proofs.Laws.{not_both, same_test, same_refl, same_true}
 use Rattle.pala.specs.Record.{epoch_of, parent_name_of, payload_of, low_first, message, proposal_heard}
 use Rattle.pala.specs.Rules.{epoch_at, parent_of}
 use Rattle.pala.proofs.Keeps.{size-shaped}
@@ -23,26 +23,26 @@ use Rattle.record.proofs.Laws.{message-name, message-epoch, message-parent, mess
 use Rattle.accord.specs.declared.Hall.{Hall}
 use Rattle.accord.specs.Head.{most_gateways, gateway, honest_in}
 use Rattle.accord.specs.Rulings.{any_below, table_of, named, shows, Content, alike, content_at, otherwise}
-use Rattle.accord.proofs.Scans.{any-hit}
+use Rattle.accord.proofs.Scans.{any_hit}
 use Rattle.hall.specs.Kept.{Kept}
 use Rattle.hall.specs.Book.{book_rows, row_at, row_of, Whole, block_row, no_row, held_row, Pages, row_named, row_shows, row_other, shown_in, clash_in}
-use Rattle.hall.proofs.Rows.{any-yes}
-use Rattle.hall.proofs.Filling.{held-block, held-past, held-faulty, honest-count}
+use Rattle.hall.proofs.Rows.{any_yes}
+use Rattle.hall.proofs.Filling.{held-block, held-past, held_faulty, honest_count}
 
 -- ---- the row of a block
 
-mark-is : (own : Bool) → eqb (pick own 1 0) 1 ≡ own
+mark_is : (own : Bool) → eqb (pick own 1 0) 1 ≡ own
 unfolding pick
-mark-is true = refl
-mark-is false = refl
+mark_is true = refl
+mark_is false = refl
 
 named-is : (t : List Block) (name : List ℕ) (p : ℕ) → 0 < p → named t name p ≡ same (at t p).name name
 unfolding named
 named-is t name p pos = ap (λ (x : Bool). x && same (at t p).name name) (lt-ltb 0 p pos)
 
-named-above : (t : List Block) (name : List ℕ) (p : ℕ) → named t name p ≡ true → 0 < p
+named_above : (t : List Block) (name : List ℕ) (p : ℕ) → named t name p ≡ true → 0 < p
 unfolding named
-named-above t name p e = ltb-true 0 p (and_l (ltb 0 p) (same (at t p).name name) e)
+named_above t name p e = ltb-true 0 p (and_l (ltb 0 p) (same (at t p).name name) e)
 
 -- it shows the mark of its gateway's vote
 block-shows :
@@ -52,7 +52,7 @@ unfolding row_shows row_named block_row message
 block-shows t i p name whole pos =
     let own = has_voter (at t p) i in
     let n = (at t p).name in
-    ap₂ (λ (x : Bool) (y : List ℕ). x && same y name) (mark-is own) (message-name 1 (pick own 1 0) (epoch_at t p) n (at t (parent_of t p)).name (at t p).payload whole.name)
+    ap₂ (λ (x : Bool) (y : List ℕ). x && same y name) (mark_is own) (message-name 1 (pick own 1 0) (epoch_at t p) n (at t (parent_of t p)).name (at t p).payload whole.name)
     ∙ and_comm own (same n name)
     ∙ ap (λ (x : Bool). x && own) (sym (named-is t name p pos))
 
@@ -64,9 +64,9 @@ tail name c = low_first c.epoch ++ name ++ c.parent ++ c.payload
 module _ (name : List ℕ) (c d : Content) (wide : c.epoch < 4294967296) (wide' : d.epoch < 4294967296)
     (n : length name ≡ name_bytes) (up : length c.parent ≡ name_bytes) (up' : length d.parent ≡ name_bytes)
     (load : length c.payload ≡ payload_bytes) (load' : length d.payload ≡ payload_bytes) where
-  tails-alike : tail name c ≡ tail name d → alike c d ≡ true
+  tails_alike : tail name c ≡ tail name d → alike c d ≡ true
   unfolding alike message
-  tails-alike e =
+  tails_alike e =
       let whole : message 0 0 c.epoch name c.parent c.payload ≡ message 0 0 d.epoch name d.parent d.payload = ap (λ (l : List ℕ). 0 ∷ 0 ∷ 0 ∷ 0 ∷ l) e in
       let epochs : c.epoch ≡ d.epoch =
       sym (message-epoch 0 0 c.epoch name c.parent c.payload wide) ∙ ap epoch_of whole ∙ message-epoch 0 0 d.epoch name d.parent d.payload wide' in
@@ -78,9 +78,9 @@ module _ (name : List ℕ) (c d : Content) (wide : c.epoch < 4294967296) (wide' 
       (and_both (eqb c.epoch d.epoch) (same c.parent d.parent) (eq-eqb c.epoch d.epoch epochs) (ap (same c.parent) (sym parents) ∙ same_refl c.parent))
       (ap (same c.payload) (sym payloads) ∙ same_refl c.payload)
 
-  alike-tails : alike c d ≡ true → tail name c ≡ tail name d
+  alike_tails : alike c d ≡ true → tail name c ≡ tail name d
   unfolding alike
-  alike-tails e =
+  alike_tails e =
       let a : eqb c.epoch d.epoch ≡ true = search (and_l, and_r) in
       let b : same c.parent d.parent ≡ true = search (and_l, and_r) in
       let f : same c.payload d.payload ≡ true = search (and_l, and_r) in
@@ -89,10 +89,10 @@ module _ (name : List ℕ) (c d : Content) (wide : c.epoch < 4294967296) (wide' 
       let payloads = same_true c.payload d.payload f in
       λ i. low_first (epochs i) ++ name ++ parents i ++ payloads i
 
-  same-tails : same (tail name c) (tail name d) ≡ alike c d
-  same-tails =
-      same_test (same (tail name c) (tail name d)) (alike c d) (λ e. tails-alike (same_true (tail name c) (tail name d) e))
-      (λ e. ap (same (tail name c)) (sym (alike-tails e)) ∙ same_refl (tail name c))
+  same_tails : same (tail name c) (tail name d) ≡ alike c d
+  same_tails =
+      same_test (same (tail name c) (tail name d)) (alike c d) (λ e. tails_alike (same_true (tail name c) (tail name d) e))
+      (λ e. ap (same (tail name c)) (sym (alike_tails e)) ∙ same_refl (tail name c))
 
 -- a second test that matters only where the first passes
 and_same : (a x y : Bool) → (a ≡ true → x ≡ y) → (a && x) ≡ (a && y)
@@ -100,12 +100,12 @@ and_same true x y f = f refl
 and_same false x y f = refl
 
 -- it holds another block than a message of its name
-block-other :
+block_other :
     (t : List Block) (i p : ℕ) (name : List ℕ) (c : Content) → Whole (at t p) → length (at t (parent_of t p)).name ≡ name_bytes → epoch_at t p < 4294967296
     → length name ≡ name_bytes → length c.parent ≡ name_bytes → length c.payload ≡ payload_bytes → c.epoch < 4294967296 → 0 < p
     → row_other (block_row t i p) (message proposal_heard 0 c.epoch name c.parent c.payload) ≡ (named t name p && not (alike (content_at t p) c))
 unfolding row_other row_named block_row message content_at
-block-other t i p name c whole up range n up' load wide pos =
+block_other t i p name c whole up range n up' load wide pos =
     let own : ℕ = pick (has_voter (at t p) i) 1 0 in
     let x = (at t p).name in
     let d = content_at t p in
@@ -115,39 +115,39 @@ block-other t i p name c whole up range n up' load wide pos =
     ∙ and_same (same x name) (not (same (tail x d) (tail name c))) (not (alike d c))
     (λ e.
     ap (λ (y : List ℕ). not (same (tail y d) (tail name c))) (same_true x name e)
-    ∙ ap not (same-tails name d c range wide n up up' whole.payload load))
+    ∙ ap not (same_tails name d c range wide n up up' whole.payload load))
     ∙ ap (λ (y : Bool). y && not (alike d c)) (sym (named-is t name p pos))
 
 -- ---- the book
 
 -- a row of zeros holds nothing
-none-shows : (name : List ℕ) → row_shows no_row name ≡ false
+none_shows : (name : List ℕ) → row_shows no_row name ≡ false
 unfolding row_shows no_row
-none-shows name = refl
+none_shows name = refl
 
 none_other : (x : List ℕ) → row_other no_row x ≡ false
 unfolding row_other row_named no_row
 none_other x = refl
 
 module _ {h : Hall} {book : List ℕ} (k : Kept h) (pages : Pages h book) where
-  table-size : (i : ℕ) → honest_in h i ≡ true → size (table_of h i) ≡ suc (gateway h i).count
+  table_size : (i : ℕ) → honest_in h i ≡ true → size (table_of h i) ≡ suc (gateway h i).count
   unfolding table_of
-  table-size i e = size-shaped (gateway h i) (k.places i (k.low i e)) (k.shaped i (k.low i e))
+  table_size i e = size-shaped (gateway h i) (k.places i (k.low i e)) (k.shaped i (k.low i e))
 
-  table-epoch : (i p : ℕ) → honest_in h i ≡ true → p ≤ (gateway h i).count → epoch_at (table_of h i) p < 4294967296
+  table_epoch : (i p : ℕ) → honest_in h i ≡ true → p ≤ (gateway h i).count → epoch_at (table_of h i) p < 4294967296
   unfolding table_of
-  table-epoch i p e l = omega (arith, shaped-epoch (gateway h i) (k.shaped i (k.low i e)) p l)
+  table_epoch i p e l = omega (arith, shaped-epoch (gateway h i) (k.shaped i (k.low i e)) p l)
 
   -- a row that passes a test which no empty row passes is an honest gateway's block
   module _ (test : List ℕ → Bool) (none : test no_row ≡ false) (i p e : ℕ) (seat : i < most_gateways) (pos : 0 < p) (most : p ≤ capacity) (here : e ≡ row_of i p) where
     row_is : row_at book e ≡ held_row h i p
     row_is = ap (row_at book) here ∙ pages.held i p seat pos most
 
-    hit-block : test (row_at book e) ≡ true → (honest_in h i ≡ true) × (p ≤ (gateway h i).count) × (test (block_row (table_of h i) i p) ≡ true)
-    hit-block y = go (either (honest_in h i))
+    hit_block : test (row_at book e) ≡ true → (honest_in h i ≡ true) × (p ≤ (gateway h i).count) × (test (block_row (table_of h i) i p) ≡ true)
+    hit_block y = go (either (honest_in h i))
       where
         empty : held_row h i p ≡ no_row → ⊥
-        empty z = not-both y (ap test (row_is ∙ z) ∙ none)
+        empty z = not_both y (ap test (row_is ∙ z) ∙ none)
 
         go : (honest_in h i ≡ true) ⊎ (honest_in h i ≡ false) → (honest_in h i ≡ true) × (p ≤ (gateway h i).count) × (test (block_row (table_of h i) i p) ≡ true)
         go (inl a) =
@@ -155,10 +155,10 @@ module _ {h : Hall} {book : List ℕ} (k : Kept h) (pages : Pages h book) where
               | yes l ↦ (a, l, sym (ap test (row_is ∙ held-block h i p a l)) ∙ y)
               | no l ↦ absurd (empty (held-past h i p (omega arith)))
             ]
-        go (inr a) = absurd (empty (held-faulty h i p a))
+        go (inr a) = absurd (empty (held_faulty h i p a))
 
-    block-hit : honest_in h i ≡ true → p ≤ (gateway h i).count → test (block_row (table_of h i) i p) ≡ true → test (row_at book e) ≡ true
-    block-hit a l y = ap test (row_is ∙ held-block h i p a l) ∙ y
+    block_hit : honest_in h i ≡ true → p ≤ (gateway h i).count → test (block_row (table_of h i) i p) ≡ true → test (row_at book e) ≡ true
+    block_hit a l y = ap test (row_is ∙ held-block h i p a l) ∙ y
 
   -- 21: the gateway's own table shows its vote
   pub shown-is : (i : ℕ) → honest_in h i ≡ true → (name : List ℕ) → shown_in book i name ≡ shows (table_of h i) i name
@@ -179,18 +179,18 @@ module _ {h : Hall} {book : List ℕ} (k : Kept h) (pages : Pages h book) where
 
       there : any_below capacity ok ≡ true → any_below (size t) vote ≡ true
       there y =
-          let (j, l, z) = any-hit capacity ok y in
-          let (a, low, b) = hit-block (λ r. row_shows r name) (none-shows name) i (j + 1) (capacity * i + j) seat (omega arith) (omega arith) (omega arith) z in
-          any-yes (size t) (j + 1) vote (omega (arith, table-size i e)) (sym (block-shows t i (j + 1) name (pages.sized i (j + 1) e) (omega arith)) ∙ b)
+          let (j, l, z) = any_hit capacity ok y in
+          let (a, low, b) = hit_block (λ r. row_shows r name) (none_shows name) i (j + 1) (capacity * i + j) seat (omega arith) (omega arith) (omega arith) z in
+          any_yes (size t) (j + 1) vote (omega (arith, table_size i e)) (sym (block-shows t i (j + 1) name (pages.sized i (j + 1) e) (omega arith)) ∙ b)
 
       back : any_below (size t) vote ≡ true → any_below capacity ok ≡ true
       back y =
-          let (p, l, z) = any-hit (size t) vote y in
-          let pos : 0 < p = named-above t name p (and_l (named t name p) (has_voter (at t p) i) z) in
-          let low : p ≤ (gateway h i).count = omega (arith, table-size i e) in
-          let most : p ≤ capacity = omega (arith, honest-count k i e) in
-          any-yes capacity (p - 1) ok (omega arith)
-          (block-hit (λ r. row_shows r name) (none-shows name) i p (capacity * i + (p - 1)) seat pos most (omega arith) e low
+          let (p, l, z) = any_hit (size t) vote y in
+          let pos : 0 < p = named_above t name p (and_l (named t name p) (has_voter (at t p) i) z) in
+          let low : p ≤ (gateway h i).count = omega (arith, table_size i e) in
+          let most : p ≤ capacity = omega (arith, honest_count k i e) in
+          any_yes capacity (p - 1) ok (omega arith)
+          (block_hit (λ r. row_shows r name) (none_shows name) i p (capacity * i + (p - 1)) seat pos most (omega arith) e low
           (block-shows t i p name (pages.sized i p e) pos ∙ z))
 
   -- 22: some honest table holds another block under the name
@@ -216,29 +216,29 @@ module _ {h : Hall} {book : List ℕ} (k : Kept h) (pages : Pages h book) where
       clashing : ℕ → Bool
       clashing i = honest_in h i && any_below (size (table_of h i)) (other i)
 
-      is-other : (i p : ℕ) → honest_in h i ≡ true → 0 < p → p ≤ (gateway h i).count → row_other (block_row (table_of h i) i p) x ≡ other i p
-      is-other i p e pos low =
+      is_other : (i p : ℕ) → honest_in h i ≡ true → 0 < p → p ≤ (gateway h i).count → row_other (block_row (table_of h i) i p) x ≡ other i p
+      is_other i p e pos low =
           let t = table_of h i in
-          block-other t i p name c (pages.sized i p e) (pages.sized i (parent_of t p) e).name (table-epoch i p e low) n up load wide pos
+          block_other t i p name c (pages.sized i p e) (pages.sized i (parent_of t p) e).name (table_epoch i p e low) n up load wide pos
 
       there : any_below book_rows ok ≡ true → any_below most_gateways clashing ≡ true
       there y =
-          let (e, l, z) = any-hit book_rows ok y in
+          let (e, l, z) = any_hit book_rows ok y in
           let i = e / capacity in
           let p = e % capacity + 1 in
           let seat : i < most_gateways = omega arith in
-          let (a, low, b) = hit-block (λ r. row_other r x) (none_other x) i p e seat (omega arith) (omega arith) (omega arith) z in
-          any-yes most_gateways i clashing seat
+          let (a, low, b) = hit_block (λ r. row_other r x) (none_other x) i p e seat (omega arith) (omega arith) (omega arith) z in
+          any_yes most_gateways i clashing seat
           (and_both (honest_in h i) (any_below (size (table_of h i)) (other i)) a
-          (any-yes (size (table_of h i)) p (other i) (omega (arith, table-size i a)) (sym (is-other i p a (omega arith) low) ∙ b)))
+          (any_yes (size (table_of h i)) p (other i) (omega (arith, table_size i a)) (sym (is_other i p a (omega arith) low) ∙ b)))
 
       back : any_below most_gateways clashing ≡ true → any_below book_rows ok ≡ true
       back y =
-          let (i, seat, z) = any-hit most_gateways clashing y in
+          let (i, seat, z) = any_hit most_gateways clashing y in
           let a = and_l (honest_in h i) (any_below (size (table_of h i)) (other i)) z in
-          let (p, l, b) = any-hit (size (table_of h i)) (other i) (and_r (honest_in h i) (any_below (size (table_of h i)) (other i)) z) in
-          let pos : 0 < p = named-above (table_of h i) name p (and_l (named (table_of h i) name p) (not (alike (content_at (table_of h i) p) c)) b) in
-          let low : p ≤ (gateway h i).count = omega (arith, table-size i a) in
-          let most : p ≤ capacity = omega (arith, honest-count k i a) in
-          any-yes book_rows (row_of i p) ok (omega arith)
-          (block-hit (λ r. row_other r x) (none_other x) i p (row_of i p) seat pos most refl a low (is-other i p a pos low ∙ b))
+          let (p, l, b) = any_hit (size (table_of h i)) (other i) (and_r (honest_in h i) (any_below (size (table_of h i)) (other i)) z) in
+          let pos : 0 < p = named_above (table_of h i) name p (and_l (named (table_of h i) name p) (not (alike (content_at (table_of h i) p) c)) b) in
+          let low : p ≤ (gateway h i).count = omega (arith, table_size i a) in
+          let most : p ≤ capacity = omega (arith, honest_count k i a) in
+          any_yes book_rows (row_of i p) ok (omega arith)
+          (block_hit (λ r. row_other r x) (none_other x) i p (row_of i p) seat pos most refl a low (is_other i p a pos low ∙ b))

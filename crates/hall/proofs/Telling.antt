@@ -33,13 +33,13 @@ abbrev pub next_line : Hall → ℕ → List ℕ → List ℕ
 next_line h k x = hall_line k (verdict h (receiver_of x) (record_of x)) (agree (hall_next h x))
 
 module _ (h : Hall) where
-  pub played-none : hall_played h [] ≡ h
+  pub played_none : hall_played h [] ≡ h
   unfolding hall_played
-  played-none = refl
+  played_none = refl
 
-  pub played-more : (x : List ℕ) (more : List (List ℕ)) → hall_played h (x ∷ more) ≡ hall_played (hall_next h x) more
+  pub played_more : (x : List ℕ) (more : List (List ℕ)) → hall_played h (x ∷ more) ≡ hall_played (hall_next h x) more
   unfolding hall_played
-  played-more x more = refl
+  played_more x more = refl
 
   pub lines_none : (k : ℕ) → hall_lines h k [] ≡ []
   unfolding hall_lines lines_with
@@ -59,17 +59,17 @@ hall_tale =
       line = next_line;
       last = hall_played;
       text = hall_lines;
-      last_none = played-none;
-      last_more = played-more;
-      text-none = lines_none;
-      text-more = lines_more;
+      last_none = played_none;
+      last_more = played_more;
+      text_none = lines_none;
+      text_more = lines_more;
     }
 
-pub hall-end :
+pub hall_end :
     {h u : Hall} {before k end : ℕ} {input text₀ text : List ℕ} → Gone hall_tale h before input text₀ u k end text
     → ◌≡◌ {A = HallPiece} (record { answer = Answer.Taken; hall = u; before = k; length = end; text = text }) (hall_piece Answer.Taken h before input text₀)
 unfolding hall_piece pick taken number
-hall-end g = λ i. record { answer = Answer.Taken; hall = g.state i; before = g.number i; length = g.ends i; text = g.holds i }
+hall_end g = λ i. record { answer = Answer.Taken; hall = g.state i; before = g.number i; length = g.ends i; text = g.holds i }
 
 -- ---- one record
 
@@ -85,8 +85,8 @@ module _ (input : List ℕ) (from size : ℕ) (l : from < length input) (some : 
   pub sent-to : receiver_of (part input from size) ≡ get_or input from 0
   sent-to = ap receiver_of sent
 
-  pub sent-record : record_of (part input from size) ≡ take (from + size - (from + 1)) (drop (from + 1) input)
-  sent-record = ap record_of sent
+  pub sent_record : record_of (part input from size) ≡ take (from + size - (from + 1)) (drop (from + 1) input)
+  sent_record = ap record_of sent
 
 -- every verdict's number is below 23
 verdict-few : (v : Verdict) → verdict_number v < 23
@@ -97,21 +97,21 @@ verdict-few Verdict.Clash = lit< tt
 verdict-few (Verdict.Answered a) = omega (arith, number-few a)
 
 -- "yes" and "no" have at most three letters
-word-few : (word : Bool) → length (pick word yes_word no_word) ≤ 3
+word_few : (word : Bool) → length (pick word yes_word no_word) ≤ 3
 unfolding pick
-word-few true = omega arith
-word-few false = omega arith
+word_few true = omega arith
+word_few false = omega arith
 
 -- the record is played, and its line put
-pub hall-recorded :
+pub hall_recorded :
     {h u : Hall} {x text later book lists counts : List ℕ} {to k told end past : ℕ} {r : List ℕ} {word : Bool} → receiver_of x ≡ to → record_of x ≡ r
     → Turned h to r u book lists counts word → told ≡ verdict_number (verdict h to r) → end + hall_line_most ≤ length text → k < 2 ^ 64
     → ◌≡◌ {A = Lined} (record { length = past; text = later }) (worded_at k told (pick word yes_word no_word) end text)
     → Recorded hall_tale h k x text end u past later
 unfolding hall_line
-hall-recorded {h} {u} {x} {text} {to = to} {k = k} {told = told} {end = end} {r = r} {word = word} e f t says room low l =
+hall_recorded {h} {u} {x} {text} {to = to} {k = k} {told = told} {end = end} {r = r} {word = word} e f t says room low l =
     let s : Spacious text end k told (pick word yes_word no_word) =
-    record { room = omega (arith, word-few word); first = low; second = omega (arith, says, verdict-few (verdict h to r)) } in
+    record { room = omega (arith, word_few word); first = low; second = omega (arith, says, verdict-few (verdict h to r)) } in
     let put = worded-is s l in
     let state : u ≡ hall_next h x = t.hall ∙ sym (λ i. hall_after h (e i) (f i)) in
     let answer : told ≡ verdict_number (verdict h (receiver_of x) (record_of x)) = says ∙ sym (λ i. verdict_number (verdict h (e i) (f i))) in
@@ -119,5 +119,5 @@ hall-recorded {h} {u} {x} {text} {to = to} {k = k} {told = told} {end = end} {r 
     record {
       state = state;
       line = put_as (λ i. worded k (answer i) (pick (yes i) yes_word no_word)) put;
-      short = omega (arith, put.ends, worded-most s, word-few word);
+      short = omega (arith, put.ends, worded-most s, word_few word);
     }

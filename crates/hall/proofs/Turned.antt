@@ -15,7 +15,7 @@ use Rattle.node.proofs.Calls.{decided-answer}
 use Rattle.accord.specs.declared.Hall.{Hall}
 use Rattle.accord.specs.Head.{gateway, honest_in}
 use Rattle.accord.specs.Rulings.{passes, seated, verdict, verdict_number, hall_after}
-use Rattle.accord.proofs.Halls.{allowed, hall-moves, hall-stays}
+use Rattle.accord.proofs.Halls.{allowed, hall_moves, hall_stays}
 use Rattle.hall.specs.declared.beside.Beside.{Beside}
 use Rattle.hall.specs.Kept.{Kept}
 use Rattle.hall.specs.Play.{Live}
@@ -27,26 +27,26 @@ pub record Turned (h : Hall) (to : ℕ) (r : List ℕ) (u : Hall) (book lists co
   pub live : Live u book lists counts word
 
 -- "a refused one changes nothing"
-pub turn-refused :
+pub turn_refused :
     {h : Hall} {book lists counts : List ℕ} {word : Bool} {to told : ℕ} {r : List ℕ} → Live h book lists counts word → told ≡ verdict_number (verdict h to r)
     → (told ≡ 0 → ⊥) → Turned h to r h book lists counts word
 unfolding passes
-turn-refused {h} {to = to} {r = r} v e d = record { hall = sym (hall-stays h to r (ne_eqb _ 0 (λ z. d (e ∙ z)))); live = v }
+turn_refused {h} {to = to} {r = r} v e d = record { hall = sym (hall_stays h to r (ne_eqb _ 0 (λ z. d (e ∙ z)))); live = v }
 
 -- who is honest and how many there are stay
-pub turned-flags :
+pub turned_flags :
     {h u : Hall} {to : ℕ} {r book lists counts : List ℕ} {word : Bool} → Turned h to r u book lists counts word → (h.honest ≡ u.honest) × (h.n ≡ u.n)
 unfolding hall_after seated
-turned-flags {h} {to = to} {r = r} t =
+turned_flags {h} {to = to} {r = r} t =
     let same : (h.honest ≡ (hall_after h to r).honest) × (h.n ≡ (hall_after h to r).n) =
     pick-case (λ x. (h.honest ≡ x.honest) × (h.n ≡ x.n)) (passes (verdict h to r)) (seated h to (step (gateway h to) r lent).state) h (λ _. (refl, refl)) (λ _. (refl, refl)) in
     (same.0 ∙ ap (λ (x : Hall). x.honest) (sym t.hall), same.1 ∙ ap (λ (x : Hall). x.n) (sym t.hall))
 
 -- the same, otherwise worded
-pub turn-as :
+pub turn_as :
     {h u v : Hall} {to : ℕ} {r book book' lists lists' : List ℕ} {b b' : Beside} → v ≡ u → book' ≡ book → lists' ≡ lists → b' ≡ b
     → Turned h to r u book lists b.counts b.word → Turned h to r v book' lists' b'.counts b'.word
-turn-as {h} {to = to} {r = r} e f g k t =
+turn_as {h} {to = to} {r = r} e f g k t =
     subst (λ x. x) (sym (λ i. Turned h to r (e i) (f i) (g i) (k i).counts (k i).word)) t
 
 -- a taken one: its receiver is honest and takes it, and the hall moves on by that step
@@ -60,14 +60,14 @@ unfolding passes
 admitted {h} {to} {i} {r = r} s e z =
     let passed : passes (verdict h to r) ≡ true = eq-eqb _ 0 (sym e ∙ z) in
     let a = allowed h to r passed in
-    subst (λ j. Admitted h to j r) (sym (s.own a.honest)) (record { honest = a.honest; takes = a.answered; moves = hall-moves h to r passed })
+    subst (λ j. Admitted h to j r) (sym (s.own a.honest)) (record { honest = a.honest; takes = a.answered; moves = hall_moves h to r passed })
 
 module _ {h : Hall} {to i : ℕ} {r : List ℕ} (a : Admitted h to i r) where
-  pub admitted-taken : Kept h → {d : Decision} → d ≡ decision (gateway h i) r → taken d.answer ≡ true
-  admitted-taken k e =
+  pub admitted_taken : Kept h → {d : Decision} → d ≡ decision (gateway h i) r → taken d.answer ≡ true
+  admitted_taken k e =
       ap (λ (x : Decision). taken x.answer) e ∙ ap taken (decided-answer (gateway h i) r (k.shaped i (k.low i a.honest))) ∙ a.takes
 
-  pub turn-taken :
+  pub turn_taken :
       {t : State} {book lists counts : List ℕ} {word : Bool} → t ≡ (step (gateway h i) r lent).state → Live (seated h i t) book lists counts word
       → Turned h to r (seated h i t) book lists counts word
-  turn-taken new v = record { hall = sym (a.moves ∙ ap (seated h i) (sym new)); live = v }
+  turn_taken new v = record { hall = sym (a.moves ∙ ap (seated h i) (sym new)); live = v }

@@ -33,7 +33,7 @@ use Rattle.accord.specs.declared.Hall.{Hall}
 use Rattle.accord.specs.declared.Verdict.{Verdict}
 use Rattle.accord.specs.Head.{most_gateways, gateway, honest_in}
 use Rattle.accord.specs.Rulings.{Content, any_below, table_of, shows, otherwise, forged, clash, content_of, verdict, verdict_number}
-use Rattle.accord.proofs.Halls.{honest-below}
+use Rattle.accord.proofs.Halls.{honest_below}
 use Rattle.hall.specs.Kept.{Kept}
 use Rattle.hall.specs.Book.{Pages}
 use Rattle.hall.specs.Judged.{forged_in, clashed_in, judged, judged_own}
@@ -41,9 +41,9 @@ use Rattle.hall.proofs.Judged.{told_by}
 use Rattle.hall.proofs.Pages.{shown-is, clash-is}
 
 -- where the first part of a test passes the second tells
-and-under : (a b c : Bool) → (a ≡ true → b ≡ c) → (a && b) ≡ (a && c)
-and-under true b c e = e refl
-and-under false b c e = refl
+and_under : (a b c : Bool) → (a ≡ true → b ≡ c) → (a && b) ≡ (a && c)
+and_under true b c e = e refl
+and_under false b c e = refl
 
 -- 21 and 22, and then another number
 abbrev lowest_of : Bool → Bool → ℕ → ℕ
@@ -61,12 +61,12 @@ rows-number false false true x = refl
 rows-number false false false x = refl
 
 -- the fields of a whole record have their lengths
-field-long : (r : List ℕ) (from size : ℕ) → from + size ≤ record_bytes → length r ≡ record_bytes → length (take size (drop from r)) ≡ size
-field-long r from size h e = length-take-le size (drop from r) (omega (arith, length-drop from r))
+field_long : (r : List ℕ) (from size : ℕ) → from + size ≤ record_bytes → length r ≡ record_bytes → length (take size (drop from r)) ≡ size
+field_long r from size h e = length-take-le size (drop from r) (omega (arith, length-drop from r))
 
 -- a record of kind 4 is of no other kind
-kind-only : (r : List ℕ) (j : ℕ) → is propose_now r ≡ true → is j r ≡ eqb propose_now j
-kind-only r j e = ap (λ (x : ℕ). eqb x j) (eqb-true (kind_of r) propose_now e)
+kind_only : (r : List ℕ) (j : ℕ) → is propose_now r ≡ true → is j r ≡ eqb propose_now j
+kind_only r j e = ap (λ (x : ℕ). eqb x j) (eqb-true (kind_of r) propose_now e)
 
 -- ---- a whole record
 
@@ -75,26 +75,26 @@ module _ {h : Hall} {book : List ℕ} (k : Kept h) (w : Pages h book) (r : List 
   forged-is : forged_in book h.honest (fields_of r) ≡ forged h r
   unfolding forged_in forged honest_in fields_of name_of
   forged-is =
-      and-under (is vote_heard r && honest_in h (sender_of r)) _ _
+      and_under (is vote_heard r && honest_in h (sender_of r)) _ _
       (λ e. ap not (shown-is k w (sender_of r) (and_r (is vote_heard r) (honest_in h (sender_of r)) e) (name_of r)))
 
   -- the rows of the book hold what the honest tables hold
-  clashed-is :
+  clashed_is :
       (epoch : ℕ) (parent : List ℕ) → epoch < 4294967296 → length parent ≡ name_bytes
       → clashed_in book (fields_of r) epoch parent
       ≡ any_below most_gateways (λ i. honest_in h i && otherwise (table_of h i) (name_of r) (record { epoch = epoch; parent = parent; payload = payload_of r }))
   unfolding clashed_in fields_of name_of payload_of
-  clashed-is epoch parent low long =
-      clash-is k w (name_of r) parent (payload_of r) epoch (field-long r 8 name_bytes (omega arith) whole) long (field-long r 72 payload_bytes (omega arith) whole) low
+  clashed_is epoch parent low long =
+      clash-is k w (name_of r) parent (payload_of r) epoch (field_long r 8 name_bytes (omega arith) whole) long (field_long r 72 payload_bytes (omega arith) whole) low
 
   -- what some honest table holds otherwise
   abbrev stands : Content → Bool
   stands c = any_below most_gateways (λ i. honest_in h i && otherwise (table_of h i) (name_of r) c)
 
   module _ (s : State) where
-    clash-on : {c : Content} → (is proposal_heard r || is propose_now r) ≡ true → content_of s r ≡ c → stands c ≡ clash h s r
+    clash_on : {c : Content} → (is proposal_heard r || is propose_now r) ≡ true → content_of s r ≡ c → stands c ≡ clash h s r
     unfolding clash
-    clash-on e f = sym (ap (λ (t : Bool). t && stands (content_of s r)) e ∙ ap stands f)
+    clash_on e f = sym (ap (λ (t : Bool). t && stands (content_of s r)) e ∙ ap stands f)
 
     -- of kind 1 it is the block of its own fields, of kind 4 the one its receiver would add, of another kind none
     heard-clash :
@@ -102,20 +102,20 @@ module _ {h : Hall} {book : List ℕ} (k : Kept h) (w : Pages h book) (r : List 
         → clashed_in book (fields_of r) (epoch_of r) (parent_name_of r) ≡ clash h s r
     unfolding content_of parent_name_of
     heard-clash e low =
-        clashed-is (epoch_of r) (parent_name_of r) low (field-long r 40 name_bytes (omega arith) whole)
-        ∙ clash-on (or_l _ (is propose_now r) e) (pick_yes (is proposal_heard r) _ _ e)
+        clashed_is (epoch_of r) (parent_name_of r) low (field_long r 40 name_bytes (omega arith) whole)
+        ∙ clash_on (or_l _ (is propose_now r) e) (pick_yes (is proposal_heard r) _ _ e)
 
     own-clash :
         is propose_now r ≡ true → s.local.0 < 4294967296 → length (at (rows s) (freshest s.n (rows s))).name ≡ name_bytes
         → clashed_in book (fields_of r) s.local.0 (at (rows s) (freshest s.n (rows s))).name ≡ clash h s r
     unfolding content_of
     own-clash e low long =
-        clashed-is s.local.0 (at (rows s) (freshest s.n (rows s))).name low long
-        ∙ clash-on (or_r (is proposal_heard r) _ e) (pick_no (is proposal_heard r) _ _ (kind-only r 1 e))
+        clashed_is s.local.0 (at (rows s) (freshest s.n (rows s))).name low long
+        ∙ clash_on (or_r (is proposal_heard r) _ e) (pick_no (is proposal_heard r) _ _ (kind_only r 1 e))
 
-    no-clash : is proposal_heard r ≡ false → is propose_now r ≡ false → false ≡ clash h s r
+    no_clash : is proposal_heard r ≡ false → is propose_now r ≡ false → false ≡ clash h s r
     unfolding clash
-    no-clash e f = sym (ap (λ (t : Bool). (t || is propose_now r) && stands (content_of s r)) e ∙ ap (λ (t : Bool). t && stands (content_of s r)) f)
+    no_clash e f = sym (ap (λ (t : Bool). (t || is propose_now r) && stands (content_of s r)) e ∙ ap (λ (t : Bool). t && stands (content_of s r)) f)
 
 -- ---- the answer, where the receiver is honest
 
@@ -155,74 +155,74 @@ module _ {h : Hall} {book : List ℕ} (k : Kept h) (w : Pages h book) (to : ℕ)
       ∙ sym (ruled ∙ ap (λ (t : Bool). lowest_of (t && forged h r) (t && clash h own r) (number answer)) off)
 
   module _ (whole : length r ≡ record_bytes) (p : Place) where
-    ruled-whole : verdict_number (verdict h to r) ≡ lowest_of (forged h r) (clash h own r) (number answer)
-    ruled-whole =
+    ruled_whole : verdict_number (verdict h to r) ≡ lowest_of (forged h r) (clash h own r) (number answer)
+    ruled_whole =
         ruled ∙ ap (λ (t : Bool). lowest_of (t && forged h r) (t && clash h own r) (number answer)) (eq-eqb (length r) record_bytes whole)
 
-    judged-whole :
+    judged_whole :
         judged book h.honest to (by_fields (fields_of r) p)
         ≡ lowest_of (forged h r) (is proposal_heard r && clashed_in book (fields_of r) (epoch_of r) (parent_name_of r)) (number answer)
     unfolding fields_of
-    judged-whole =
+    judged_whole =
         judged-is (by_fields (fields_of r) p)
         ∙ ap (λ (b : Bool). lowest_of b (is proposal_heard r && clashed_in book (fields_of r) (epoch_of r) (parent_name_of r)) (number answer)) (forged-is k w r whole)
 
     -- a record of another kind than 4
-    told-heard : is propose_now r ≡ false → epoch_of r < 4294967296 → judged book h.honest to (by_fields (fields_of r) p) ≡ verdict_number (verdict h to r)
-    told-heard f low =
-        judged-whole
+    told_heard : is propose_now r ≡ false → epoch_of r < 4294967296 → judged book h.honest to (by_fields (fields_of r) p) ≡ verdict_number (verdict h to r)
+    told_heard f low =
+        judged_whole
         ∙ ap (λ (c : Bool). lowest_of (forged h r) c (number answer)) (kinds (is proposal_heard r) refl)
-        ∙ sym ruled-whole
+        ∙ sym ruled_whole
       where
         kinds : (b : Bool) → is proposal_heard r ≡ b → (b && clashed_in book (fields_of r) (epoch_of r) (parent_name_of r)) ≡ clash h own r
         kinds true e = heard-clash k w r whole own e low
-        kinds false e = no-clash k w r whole own e f
+        kinds false e = no_clash k w r whole own e f
 
     -- one of kind 4, which is no vote and no proposal heard
     module _ (e : is propose_now r ≡ true) where
       not-forged : forged h r ≡ false
       unfolding forged
       not-forged =
-          ap (λ (t : Bool). t && honest_in h (sender_of r) && not (shows (table_of h (sender_of r)) (sender_of r) (name_of r))) (kind-only r vote_heard e)
+          ap (λ (t : Bool). t && honest_in h (sender_of r) && not (shows (table_of h (sender_of r)) (sender_of r) (name_of r))) (kind_only r vote_heard e)
 
       judged-own : judged book h.honest to (by_fields (fields_of r) p) ≡ number answer
       unfolding pick
       judged-own =
           let clashes : Bool = clashed_in book (fields_of r) (epoch_of r) (parent_name_of r) in
-          judged-whole
+          judged_whole
           ∙ ap (λ (b : Bool). lowest_of b (is proposal_heard r && clashes) (number answer)) not-forged
-          ∙ ap (λ (b : Bool). lowest_of false (b && clashes) (number answer)) (kind-only r proposal_heard e)
+          ∙ ap (λ (b : Bool). lowest_of false (b && clashes) (number answer)) (kind_only r proposal_heard e)
 
-      told-own :
+      told_own :
           own.local.0 < 4294967296
           → judged_own book own (fields_of r) (judged book h.honest to (by_fields (fields_of r) p)) ≡ verdict_number (verdict h to r)
       unfolding judged_own pick table_of verdict_number
-      told-own low =
+      told_own low =
           let top : ℕ = freshest own.n (rows own) in
           ap (judged_own book own (fields_of r)) judged-own
           ∙ pick_no (eqb (number answer) 20) _ _ (ne_eqb (number answer) 20 (λ d. omega (arith, number-few answer)))
           ∙ ap (λ (c : Bool). pick c 22 (number answer)) (own-clash k w r whole own e low (w.sized to top y).name)
-          ∙ sym (ruled-whole ∙ ap (λ (b : Bool). lowest_of b (clash h own r) (number answer)) not-forged)
+          ∙ sym (ruled_whole ∙ ap (λ (b : Bool). lowest_of b (clash h own r) (number answer)) not-forged)
 
     -- of any kind
-    told-whole :
+    told_whole :
         epoch_of r < 4294967296 → (is propose_now r ≡ true → own.local.0 < 4294967296)
         → told_by book h.honest to own (by_fields (fields_of r) p) ≡ verdict_number (verdict h to r)
     unfolding told_by fields_of
-    told-whole low local =
-        pick-case (λ (n : ℕ). n ≡ verdict_number (verdict h to r)) (is propose_now r) _ _ (λ e. told-own e (local e)) (λ e. told-heard e low)
+    told_whole low local =
+        pick-case (λ (n : ℕ). n ≡ verdict_number (verdict h to r)) (is propose_now r) _ _ (λ e. told_own e (local e)) (λ e. told_heard e low)
 
   -- and of any length
-  told-honest :
+  told_honest :
       {d : Decision} → d ≡ decision own r → well_shaped own ≡ true → d.fields.epoch.0 < 4294967296
       → (d.fields.kind ≡ propose_now → own.local.0 < 4294967296) → told_by book h.honest to own d ≡ verdict_number (verdict h to r)
   unfolding decision fields_of
-  told-honest {d} e shaped low local =
+  told_honest {d} e shaped low local =
       elim (ℕ_discrete (length r) record_bytes) [
         | yes whole ↦
             let fields : d.fields ≡ fields_of r = ap (λ (x : Decision). x.fields) e ∙ pick_yes is_whole (fields_of r) no_fields (eq-eqb (length r) record_bytes whole) in
             ap (told_by book h.honest to own) (by fields)
-            ∙ told-whole whole d.place (subst (λ f. f.epoch.0 < 4294967296) fields low) (λ i. local (ap (λ (f : Fields). f.kind) fields ∙ eqb-true _ _ i))
+            ∙ told_whole whole d.place (subst (λ f. f.epoch.0 < 4294967296) fields low) (λ i. local (ap (λ (f : Fields). f.kind) fields ∙ eqb-true _ _ i))
         | no off ↦
             let none : is_whole ≡ false = ne_eqb (length r) record_bytes off in
             ap (told_by book h.honest to own) (by (ap (λ (x : Decision). x.fields) e ∙ pick_no is_whole (fields_of r) no_fields none)) ∙ told_part d.place none
@@ -234,28 +234,28 @@ module _ {h : Hall} {book : List ℕ} (k : Kept h) (w : Pages h book) (to : ℕ)
 -- ---- any receiver
 
 -- nobody is honest past the last number
-pub flag-below : (honest : List Bool) (i : ℕ) → length honest ≡ most_gateways → get_or honest i false ≡ true → i < most_gateways
+pub flag_below : (honest : List Bool) (i : ℕ) → length honest ≡ most_gateways → get_or honest i false ≡ true → i < most_gateways
 unfolding honest_in
-flag-below honest i = honest-below (record { states = []; honest = honest; n = 0 }) i
+flag_below honest i = honest_below (record { states = []; honest = honest; n = 0 }) i
 
 -- a number's seat: below n, and the receiver's own where it is honest
 pub record Seat (h : Hall) (to i : ℕ) : Type 0 where
   pub inside : i < h.n
   pub own : honest_in h to ≡ true → i ≡ to
 
-pub seat-of : {h : Hall} → Kept h → (to i : ℕ) → i ≡ pick (ltb to h.n) to 0 → Seat h to i
-seat-of {h} k to i e =
+pub seat_of_lem : {h : Hall} → Kept h → (to i : ℕ) → i ≡ pick (ltb to h.n) to 0 → Seat h to i
+seat_of_lem {h} k to i e =
     record {
       inside = subst (λ n. n < h.n) (sym e) (pick-case (λ n. n < h.n) (ltb to h.n) to 0 (ltb-true to h.n) (λ _. k.some));
       own = λ y. e ∙ pick_yes (ltb to h.n) to 0 (lt-ltb to h.n (k.low to y));
     }
 
 -- "20 receiver not an honest node", before the others
-told-stranger :
+told_stranger :
     (h : Hall) (book : List ℕ) (to : ℕ) (s : State) (r : List ℕ) (d : Decision) → honest_in h to ≡ false
     → told_by book h.honest to s d ≡ verdict_number (verdict h to r)
 unfolding told_by judged_own judged honest_in verdict verdict_number pick
-told-stranger h book to s r d f =
+told_stranger h book to s r d f =
     let judges : judged book h.honest to d ≡ 20 = pick_yes (not (honest_in h to)) 20 _ (ap not f) in
     pick-case (λ (n : ℕ). n ≡ 20) (eqb d.fields.kind propose_now) (judged_own book s d.fields (judged book h.honest to d)) (judged book h.honest to d)
     (λ _. ap (judged_own book s d.fields) judges) (λ _. judges)
@@ -271,5 +271,5 @@ told_is {h} {book} k w {to} {i} s r {d} e low local =
     (λ y.
     subst
     (λ j. d ≡ decision (gateway h j) r → (d.fields.kind ≡ propose_now → (gateway h j).local.0 < 4294967296) → told_by book h.honest to (gateway h j) d ≡ verdict_number (verdict h to r))
-    (sym (s.own y)) (λ f l. told-honest k w to y r f (k.shaped to (k.low to y)) low l) e local)
-    (told-stranger h book to (gateway h i) r d) (either (honest_in h to))
+    (sym (s.own y)) (λ f l. told_honest k w to y r f (k.shaped to (k.low to y)) low l) e local)
+    (told_stranger h book to (gateway h i) r d) (either (honest_in h to))

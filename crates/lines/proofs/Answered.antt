@@ -21,30 +21,30 @@ module _ (s : State) (before : ℕ) (input text : List ℕ) where
   abbrev pub handed_back : Answer → Piece
   handed_back a = record { answer = a; state = s; before = before; length = 0; text = text }
 
-  pub piece-unshaped : well_shaped s ≡ false → play_piece s before input text ≡ handed_back Answer.State
+  pub piece_unshaped : well_shaped s ≡ false → play_piece s before input text ≡ handed_back Answer.State
   unfolding play_piece piece_answer lowest_of piece pick taken number
-  piece-unshaped h = ap (λ (a : Answer). piece a s before input text) (pick_yes (not (well_shaped s)) Answer.State _ (ap not h))
+  piece_unshaped h = ap (λ (a : Answer). piece a s before input text) (pick_yes (not (well_shaped s)) Answer.State _ (ap not h))
 
   module _ (h : well_shaped s ≡ true) where
-    pub piece-short : length text < line_most * length (stretches input) → play_piece s before input text ≡ handed_back Answer.Length
+    pub piece_short : length text < line_most * length (stretches input) → play_piece s before input text ≡ handed_back Answer.Length
     unfolding play_piece piece_answer lowest_of piece pick taken number
-    piece-short l =
+    piece_short l =
         ap (λ (a : Answer). piece a s before input text)
         (pick_no (not (well_shaped s)) Answer.State _ (ap not h)
         ∙ pick_yes (ltb (length text) (line_most * length (stretches input))) Answer.Length _ (lt-ltb _ _ l))
 
     module _ (fits : line_most * length (stretches input) ≤ length text) where
-      pub piece-over : last_number < before + length (stretches input) → play_piece s before input text ≡ handed_back Answer.Full
+      pub piece_over : last_number < before + length (stretches input) → play_piece s before input text ≡ handed_back Answer.Full
       unfolding play_piece piece_answer lowest_of piece pick taken number
-      piece-over l =
+      piece_over l =
           ap (λ (a : Answer). piece a s before input text)
           (pick_no (not (well_shaped s)) Answer.State _ (ap not h)
           ∙ pick_no (ltb (length text) (line_most * length (stretches input))) Answer.Length _ (le-ltb _ _ fits)
           ∙ pick_yes (ltb last_number (before + length (stretches input))) Answer.Full _ (lt-ltb _ _ l))
 
-  pub piece-ready : Ready s before input text → play_piece s before input text ≡ piece Answer.Taken s before input text
+  pub piece_ready : Ready s before input text → play_piece s before input text ≡ piece Answer.Taken s before input text
   unfolding play_piece piece_answer lowest_of
-  piece-ready r =
+  piece_ready r =
       ap (λ (a : Answer). piece a s before input text)
       (pick_no (not (well_shaped s)) Answer.State _ (ap not r.shaped)
       ∙ pick_no (ltb (length text) (line_most * length (stretches input))) Answer.Length _ (le-ltb _ _ r.fits)

@@ -8,12 +8,12 @@ use Rattle.lines.specs.Play.{Piece}
 use Rattle.lines.specs.Text.{Lined}
 use Rattle.table.proofs.Laws.{one-outcome}
 
-put-end-one : (κs : _) (a : _) (r q : _) (s t : _) → put-end.Post κs a r s → put-end.Post κs a q t → (r ≡ q) × (s.1.0.now ≡ t.1.0.now)
-put-end-one κs a r q s t p h =
+put_end_one : (κs : _) (a : _) (r q : _) (s t : _) → put-end.Post κs a r s → put-end.Post κs a q t → (r ≡ q) × (s.1.0.now ≡ t.1.0.now)
+put_end_one κs a r q s t p h =
     (ap (λ (o : Lined). o.length) (one-outcome p h), ap (λ (o : Lined). o.text) (one-outcome p h))
 
-put-setup-one : (κs : _) (a : _) (r q : _) (s t : _) → put-setup.Post κs a r s → put-setup.Post κs a q t → (r ≡ q) × (s.0.now ≡ t.0.now)
-put-setup-one κs a r q s t p h =
+put_setup_one : (κs : _) (a : _) (r q : _) (s t : _) → put-setup.Post κs a r s → put-setup.Post κs a q t → (r ≡ q) × (s.0.now ≡ t.0.now)
+put_setup_one κs a r q s t p h =
     (ap (λ (o : Lined). o.length) (one-outcome p h), ap (λ (o : Lined). o.text) (one-outcome p h))
 
 play-one : (κs : _) (a : _) (r q : _) (s t : _) → play.Post κs a r s → play.Post κs a q t → (r ≡ q) × (s.1.1.1.0.now ≡ t.1.1.1.0.now)

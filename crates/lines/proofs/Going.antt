@@ -7,7 +7,7 @@ use native.Mathlib.Numerals.{add-one}
 use native.Mathlib.Omega.{arith}
 use lib.ListN.{length, drop, drop_of_length-le}
 use Rattle.pala.specs.Run.{cut}
-use Rattle.pala.proofs.Stretches.{cut-none, part, next-cut}
+use Rattle.pala.proofs.Stretches.{cut_none, part, next_cut}
 use Rattle.lines.specs.Play.{last_number}
 use Rattle.lines.specs.Text.{written, Put}
 use Rattle.lines.proofs.Laws.{put_then, put_as, put-length, written_none}
@@ -23,8 +23,8 @@ pub record Tale (X : Type 0) : Type 0 where
   pub text : X → ℕ → List (List ℕ) → List ℕ
   pub last_none : (x : X) → last x [] ≡ x
   pub last_more : (x : X) (r : List ℕ) (more : List (List ℕ)) → last x (r ∷ more) ≡ last (after x r) more
-  pub text-none : (x : X) (k : ℕ) → text x k [] ≡ []
-  pub text-more : (x : X) (k : ℕ) (r : List ℕ) (more : List (List ℕ)) → text x k (r ∷ more) ≡ line x (suc k) r ++ text (after x r) (suc k) more
+  pub text_none : (x : X) (k : ℕ) → text x k [] ≡ []
+  pub text_more : (x : X) (k : ℕ) (r : List ℕ) (more : List (List ℕ)) → text x k (r ∷ more) ≡ line x (suc k) r ++ text (after x r) (suc k) more
 
 -- one record played: what follows it, and its line put into the text
 pub record Recorded {X : Type 0} (T : Tale X) (x : X) (k : ℕ) (r text : List ℕ) (end : ℕ) (y : X) (past : ℕ) (later : List ℕ) : Type 0 where
@@ -69,7 +69,7 @@ module _ {X : Type 0} (T : Tale X) {x : X} {before : ℕ} {input text₀ : List 
     going_next {z} {size} l e r =
         let rec : List ℕ = part input from size in
         let rest : List (List ℕ) = cut T.size (drop (from + size) input) in
-        let parts : cut T.size (drop from input) ≡ rec ∷ rest = next-cut T.size T.some input from size l e in
+        let parts : cut T.size (drop from input) ≡ rec ∷ rest = next_cut T.size T.some input from size l e in
         let many : length (cut T.size (drop from input)) ≡ suc (length rest) = ap length parts in
         let room : T.most * length (cut T.size (drop from input)) ≡ T.most * length rest + T.most = ap (λ (n : ℕ). T.most * n) many ∙ mul-suc T.most (length rest) in
         let line : List ℕ = T.line y (k + 1) rec in
@@ -88,22 +88,22 @@ module _ {X : Type 0} (T : Tale X) {x : X} {before : ℕ} {input text₀ : List 
               ap (λ (w : X). g.done ++ line ++ T.text w (k + 1) rest) r.state
               ∙ append_assoc g.done line (T.text (T.after y rec) (k + 1) rest)
               ∙ ap (λ (n : ℕ). g.done ++ (T.line y n rec ++ T.text (T.after y rec) n rest)) (add-one k)
-              ∙ ap (λ (l : List ℕ). g.done ++ l) (sym (T.text-more y k rec rest) ∙ ap (T.text y k) (sym parts))
+              ∙ ap (λ (l : List ℕ). g.done ++ l) (sym (T.text_more y k rec rest) ∙ ap (T.text y k) (sym parts))
               ∙ g.texts;
         }
 
     some_left : from < length input → 0 < length (cut T.size (drop from input))
-    some_left l = omega (arith, ap length (next-cut T.size T.some input from (min (length input - from) T.size) l refl))
+    some_left l = omega (arith, ap length (next_cut T.size T.some input from (min (length input - from) T.size) l refl))
 
     -- there is a number for the next record, and room for its line
-    pub going-numbered : from < length input → before + length (cut T.size input) ≤ last_number → k < last_number
-    going-numbered l h = omega (arith, some_left l, g.number)
+    pub going_numbered : from < length input → before + length (cut T.size input) ≤ last_number → k < last_number
+    going_numbered l h = omega (arith, some_left l, g.number)
 
-    pub going-length : length text ≡ length text₀
-    going-length = put-length (omega (arith, g.put.ends, g.fits)) g.put
+    pub going_length : length text ≡ length text₀
+    going_length = put-length (omega (arith, g.put.ends, g.fits)) g.put
 
-    pub going-room : from < length input → end + T.most ≤ length text
-    going-room l = omega (arith, going-length, g.fits, at_least T.most _ (some_left l))
+    pub going_room : from < length input → end + T.most ≤ length text
+    going_room l = omega (arith, going_length, g.fits, at_least T.most _ (some_left l))
       where
         at_least : (m n : ℕ) → 0 < n → m ≤ m * n
         at_least m zero h = elim h [ ]
@@ -112,9 +112,9 @@ module _ {X : Type 0} (T : Tale X) {x : X} {before : ℕ} {input text₀ : List 
     -- at the end of the input the piece is played
     pub going_end : length input ≤ from → Gone T x before input text₀ y k end text
     going_end l =
-        let none : cut T.size (drop from input) ≡ [] = ap (cut T.size) (drop_of_length-le input {i = from} l) ∙ cut-none T.size T.some in
+        let none : cut T.size (drop from input) ≡ [] = ap (cut T.size) (drop_of_length-le input {i = from} l) ∙ cut_none T.size T.some in
         let count : length (cut T.size (drop from input)) ≡ 0 = ap length none in
-        let rest : T.text y k (cut T.size (drop from input)) ≡ [] = ap (T.text y k) none ∙ T.text-none y k in
+        let rest : T.text y k (cut T.size (drop from input)) ≡ [] = ap (T.text y k) none ∙ T.text_none y k in
         let all : Put text₀ 0 (T.text x before (cut T.size input)) end text =
         put_as (sym (append-nil g.done) ∙ ap (λ (l : List ℕ). g.done ++ l) (sym rest) ∙ g.texts) g.put in
         record {

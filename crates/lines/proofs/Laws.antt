@@ -64,21 +64,21 @@ unfolding digits_in
 digits_in-one zero k h = ap (λ (n : ℕ). (48 + n) ∷ []) (omega arith)
 digits_in-one (suc d) k h = rw (lt-ltb k 10 h, digits_in)
 
-digits_in-more : (d k : ℕ) → 10 ≤ k → digits_in (suc d) k ≡ digits_in d (k / 10) ++ ((48 + k % 10) ∷ [])
+digits_in_more : (d k : ℕ) → 10 ≤ k → digits_in (suc d) k ≡ digits_in d (k / 10) ++ ((48 + k % 10) ∷ [])
 unfolding digits_in
-digits_in-more d k h = rw (le-ltb k 10 h, digits_in)
+digits_in_more d k h = rw (le-ltb k 10 h, digits_in)
 
 -- more steps than the number counts change nothing
-digits-fuel : (d e k : ℕ) → k ≤ d → k ≤ e → digits_in d k ≡ digits_in e k
-digits-fuel zero e k h g = digits_in-one zero k (omega arith) ∙ sym (digits_in-one e k (omega arith))
-digits-fuel (suc d) zero k h g = digits_in-one (suc d) k (omega arith) ∙ sym (digits_in-one zero k (omega arith))
-digits-fuel (suc d) (suc e) k h g =
+digits_fuel : (d e k : ℕ) → k ≤ d → k ≤ e → digits_in d k ≡ digits_in e k
+digits_fuel zero e k h g = digits_in-one zero k (omega arith) ∙ sym (digits_in-one e k (omega arith))
+digits_fuel (suc d) zero k h g = digits_in-one (suc d) k (omega arith) ∙ sym (digits_in-one zero k (omega arith))
+digits_fuel (suc d) (suc e) k h g =
     elim (dec_lt k 10) [
       | yes l ↦ digits_in-one (suc d) k l ∙ sym (digits_in-one (suc e) k l)
       | no l ↦
-          digits_in-more d k (omega arith)
-          ∙ ap (λ (x : List ℕ). x ++ ((48 + k % 10) ∷ [])) (digits-fuel d e (k / 10) (omega arith) (omega arith))
-          ∙ sym (digits_in-more e k (omega arith))
+          digits_in_more d k (omega arith)
+          ∙ ap (λ (x : List ℕ). x ++ ((48 + k % 10) ∷ [])) (digits_fuel d e (k / 10) (omega arith) (omega arith))
+          ∙ sym (digits_in_more e k (omega arith))
     ]
 
 -- a number below ten is one digit; any other ends in its last digit
@@ -90,8 +90,8 @@ pub digits_more : (k : ℕ) → 10 ≤ k → digits k ≡ digits (k / 10) ++ ((4
 unfolding digits
 digits_more zero h = absurd (omega arith)
 digits_more (suc k) h =
-    digits_in-more k (suc k) h
-    ∙ ap (λ (x : List ℕ). x ++ ((48 + suc k % 10) ∷ [])) (digits-fuel k (suc k / 10) (suc k / 10) (omega arith) (omega arith))
+    digits_in_more k (suc k) h
+    ∙ ap (λ (x : List ℕ). x ++ ((48 + suc k % 10) ∷ [])) (digits_fuel k (suc k / 10) (suc k / 10) (omega arith) (omega arith))
 
 pub length-one : (k : ℕ) → k < 10 → length (digits k) ≡ 1
 length-one k h = ap length (digits-one k h)
@@ -102,9 +102,9 @@ length_more k h = ap length (digits_more k h) ∙ length-append (digits (k / 10)
 -- ---- put
 
 -- nothing put
-pub put-none : (text : List ℕ) (from : ℕ) → from ≤ length text → Put text from [] from text
+pub put_none : (text : List ℕ) (from : ℕ) → from ≤ length text → Put text from [] from text
 unfolding written
-put-none text from h =
+put_none text from h =
     let front : take from text ++ [] ++ drop (from + 0) text ≡ text =
     ap (λ (l : List ℕ). l ++ drop (from + 0) text) (append-nil (take from text))
     ∙ ap (λ (n : ℕ). take from text ++ drop n text) (add-zero from)
@@ -134,17 +134,17 @@ pub put-length :
 put-length {text} {after} {from} {past} {a} h p = ap length p.holds ∙ length-written text from a h
 
 -- the same end, otherwise worded
-pub put-till : {text after : List ℕ} {from past end : ℕ} {a : List ℕ} → past ≡ end → Put text from a past after → Put text from a end after
-put-till e p = record { ends = sym e ∙ p.ends; holds = p.holds }
+pub put_till : {text after : List ℕ} {from past end : ℕ} {a : List ℕ} → past ≡ end → Put text from a past after → Put text from a end after
+put_till e p = record { ends = sym e ∙ p.ends; holds = p.holds }
 
 -- the same bytes, otherwise worded
 pub put_as : {text after : List ℕ} {from past : ℕ} {a b : List ℕ} → a ≡ b → Put text from a past after → Put text from b past after
 put_as {text} {after} {from} {past} e p = subst (λ l. Put text from l past after) e p
 
 -- a number, the byte after it and the numbers after that are a line
-pub spaced-more : (x y : ℕ) (l : List ℕ) → (digits x ++ (space ∷ [])) ++ spaced (y ∷ l) ≡ spaced (x ∷ y ∷ l)
+pub spaced_more : (x y : ℕ) (l : List ℕ) → (digits x ++ (space ∷ [])) ++ spaced (y ∷ l) ≡ spaced (x ∷ y ∷ l)
 unfolding spaced
-spaced-more x y l = append_snoc (digits x) space (spaced (y ∷ l))
+spaced_more x y l = append_snoc (digits x) space (spaced (y ∷ l))
 
 pub spaced-last : (x : ℕ) → digits x ++ (new_line ∷ []) ≡ spaced (x ∷ [])
 unfolding spaced
@@ -159,8 +159,8 @@ unfolding spaced
 length-spaced-last x = length-append (digits x) (new_line ∷ [])
 
 -- where a line fits, its first number and the byte after it fit, and then the rest of the line
-pub room-first : {text : List ℕ} {from x : ℕ} {l : List ℕ} → Room text from (x ∷ l) → from + length (digits x) < length text
-room-first {text} {from} {x} {l} h = go l h.fits
+pub room_first : {text : List ℕ} {from x : ℕ} {l : List ℕ} → Room text from (x ∷ l) → from + length (digits x) < length text
+room_first {text} {from} {x} {l} h = go l h.fits
   where
     go : (m : List ℕ) → from + length (spaced (x ∷ m)) ≤ length text → from + length (digits x) < length text
     go [] h = omega (arith, length-spaced-last x)
@@ -179,7 +179,7 @@ pub put-spaced :
     {text u v : List ℕ} {from mid past x y : ℕ} {l : List ℕ} → Room text from (x ∷ y ∷ l)
     → Put text from (digits x ++ (space ∷ [])) mid u → Put u mid (spaced (y ∷ l)) past v → Put text from (spaced (x ∷ y ∷ l)) past v
 put-spaced {text} {u} {v} {from} {mid} {past} {x} {y} {l} h p q =
-    put_as (spaced-more x y l)
+    put_as (spaced_more x y l)
     (put_then (omega (arith, length-spaced x y l, length-append (digits x) (space ∷ []), h.fits)) p q)
 
 -- ---- how long a line can be
@@ -219,17 +219,17 @@ line-most k answer local bar names hk ha hl hb hn =
 -- ---- bytes one after the other
 
 -- one more of some bytes put
-pub put-more :
+pub put_more :
     {text x y : List ℕ} {from mid past : ℕ} (bytes : List ℕ) (k v : ℕ) → k < length bytes → from + length bytes ≤ length text
     → Put text from (take k bytes) mid x → v ≡ get_or bytes k 0 → Put x mid (v ∷ []) past y → Put text from (take (k + 1) bytes) past y
-put-more {text} {x} {y} {from} bytes k v l h p e q =
+put_more {text} {x} {y} {from} bytes k v l h p e q =
     let some : length (take k bytes) ≡ k = length-take-le k bytes (omega arith) in
     put_as (ap (λ (n : ℕ). take k bytes ++ (n ∷ [])) e ∙ sym (rw (add-one k) (take-suc bytes k 0 l))) (put_then (omega arith) p q)
 
 -- a line at the start of a buffer that has room for the longest, and one that has not
-pub lined-none : (line text : List ℕ) → length text < end_most → ◌≡◌ {A = Lined} (record { length = 0; text = text }) (lined line text)
+pub lined_none : (line text : List ℕ) → length text < end_most → ◌≡◌ {A = Lined} (record { length = 0; text = text }) (lined line text)
 unfolding lined
-lined-none line text h =
+lined_none line text h =
     let test : ltb (length text) end_most ≡ true = lt-ltb (length text) end_most h in
     let first : 0 ≡ pick (ltb (length text) end_most) 0 (length line) = sym (pick_yes (ltb (length text) end_most) 0 (length line) test) in
     let rest : text ≡ pick (ltb (length text) end_most) text (written text 0 line) =
@@ -253,6 +253,6 @@ pub end_line_lem : (k : ℕ) → (101 ∷ 110 ∷ 100 ∷ 32 ∷ []) ++ (digits 
 unfolding end_line spaced
 end_line_lem k = refl
 
-pub setup-line : (k : ℕ) → k ≡ number Answer.Setup → (115 ∷ 101 ∷ 116 ∷ 117 ∷ 112 ∷ 32 ∷ []) ++ (digits k ++ (new_line ∷ [])) ≡ setup_line
+pub setup_line_lem : (k : ℕ) → k ≡ number Answer.Setup → (115 ∷ 101 ∷ 116 ∷ 117 ∷ 112 ∷ 32 ∷ []) ++ (digits k ++ (new_line ∷ [])) ≡ setup_line
 unfolding setup_line spaced
-setup-line k e = ap (λ (n : ℕ). (115 ∷ 101 ∷ 116 ∷ 117 ∷ 112 ∷ 32 ∷ []) ++ (digits n ++ (new_line ∷ []))) e
+setup_line_lem k e = ap (λ (n : ℕ). (115 ∷ 101 ∷ 116 ∷ 117 ∷ 112 ∷ 32 ∷ []) ++ (digits n ++ (new_line ∷ []))) e

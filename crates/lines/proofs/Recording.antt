@@ -21,13 +21,13 @@ abbrev pub record_line : State → ℕ → List ℕ → List ℕ
 record_line s k r = line_of k (step s r lent).answer (step s r lent).state
 
 module _ (s : State) where
-  pub played-none : played s [] ≡ s
+  pub played_none : played s [] ≡ s
   unfolding played
-  played-none = refl
+  played_none = refl
 
-  pub played-more : (r : List ℕ) (more : List (List ℕ)) → played s (r ∷ more) ≡ played (step s r lent).state more
+  pub played_more : (r : List ℕ) (more : List (List ℕ)) → played s (r ∷ more) ≡ played (step s r lent).state more
   unfolding played
-  played-more r more = refl
+  played_more r more = refl
 
   pub lines_none : (k : ℕ) → lines s k [] ≡ []
   unfolding lines
@@ -47,19 +47,19 @@ recording =
       line = record_line;
       last = played;
       text = lines;
-      last_none = played-none;
-      last_more = played-more;
-      text-none = lines_none;
-      text-more = lines_more;
+      last_none = played_none;
+      last_more = played_more;
+      text_none = lines_none;
+      text_more = lines_more;
     }
 
 module _ {s : State} {before : ℕ} {input text₀ : List ℕ} where
-  pub recording-start : line_most * length (stretches input) ≤ length text₀ → Going recording s before input text₀ s before 0 0 text₀
+  pub recording_start : line_most * length (stretches input) ≤ length text₀ → Going recording s before input text₀ s before 0 0 text₀
   unfolding stretches
-  recording-start room = going_start recording room
+  recording_start room = going_start recording room
 
-  pub recording-end :
+  pub recording_end :
       {t : State} {k end : ℕ} {text : List ℕ} → Gone recording s before input text₀ t k end text
       → ◌≡◌ {A = Piece} (record { answer = Answer.Taken; state = t; before = k; length = end; text = text }) (piece Answer.Taken s before input text₀)
   unfolding piece pick taken number stretches
-  recording-end g = λ i. record { answer = Answer.Taken; state = g.state i; before = g.number i; length = g.ends i; text = g.holds i }
+  recording_end g = λ i. record { answer = Answer.Taken; state = g.state i; before = g.number i; length = g.ends i; text = g.holds i }

@@ -16,7 +16,7 @@ use Rattle.pala.specs.Run.{lent}
 use Rattle.pala.specs.Shape.{well_shaped}
 use Rattle.pala.specs.Step.{step}
 use Rattle.pala.proofs.Shapes.{shaped-kept, shaped-count}
-use Rattle.pala.proofs.Finals.{finals-are, names-le}
+use Rattle.pala.proofs.Finals.{finals_are, names_le}
 use Rattle.node.specs.declared.Decision.{Decision}
 use Rattle.node.specs.Moves.{decision}
 use Rattle.node.proofs.Calls.{decided-answer}
@@ -47,9 +47,9 @@ number-few Answer.Full = lit< tt
 number-few Answer.Setup = lit< tt
 
 -- a well-shaped state's final list has at most as many names as the table has blocks
-pub names-few : (t : State) → well_shaped t ≡ true → length (final_names t) < 100
-names-few t h =
-    let same : length (final_names t) ≤ t.kept.0 = subst (λ (l : List (List ℕ)). length l ≤ t.kept.0) (sym (finals-are t)) (names-le (rows t) t.kept.0) in
+pub names_few : (t : State) → well_shaped t ≡ true → length (final_names t) < 100
+names_few t h =
+    let same : length (final_names t) ≤ t.kept.0 = subst (λ (l : List (List ℕ)). length l ≤ t.kept.0) (sym (finals_are t)) (names_le (rows t) t.kept.0) in
     omega (arith, shaped-kept t h, shaped-count t h)
 
 -- the numbers of a line: an answer's, a state's two epochs and its final list's length
@@ -61,15 +61,15 @@ pub record Numbers (a : Answer) (t : State) (answer local bar names : ℕ) : Typ
 
 module _ {a : Answer} {t : State} {answer local bar names : ℕ} (n : Numbers a t answer local bar names) where
   -- they make no line longer than the longest
-  pub numbers-short : (k : ℕ) → k < 2 ^ 64 → well_shaped t ≡ true → length (spaced (k ∷ answer ∷ local ∷ bar ∷ names ∷ [])) ≤ line_most
-  numbers-short k h shaped =
+  pub numbers_short : (k : ℕ) → k < 2 ^ 64 → well_shaped t ≡ true → length (spaced (k ∷ answer ∷ local ∷ bar ∷ names ∷ [])) ≤ line_most
+  numbers_short k h shaped =
       line-most k answer local bar names h (omega (arith, number-few a, n.answers)) n.locals.1 n.bars.1
-      (omega (arith, names-few t shaped, n.lists))
+      (omega (arith, names_few t shaped, n.lists))
 
   -- .. and make the line of that answer and state
-  numbers-line : (k : ℕ) → spaced (k ∷ answer ∷ local ∷ bar ∷ names ∷ []) ≡ line_of k a t
+  numbers_line : (k : ℕ) → spaced (k ∷ answer ∷ local ∷ bar ∷ names ∷ []) ≡ line_of k a t
   unfolding line_of
-  numbers-line k = λ i. spaced (k ∷ n.answers i ∷ n.locals.0 i ∷ n.bars.0 i ∷ n.lists i ∷ [])
+  numbers_line k = λ i. spaced (k ∷ n.answers i ∷ n.locals.0 i ∷ n.bars.0 i ∷ n.lists i ∷ [])
 
 -- where the longest line fits, a record's line does
 pub room-line : (text : List ℕ) (end : ℕ) (l : List ℕ) → end + line_most ≤ length text → length (spaced l) ≤ line_most → Room text end l
@@ -84,6 +84,6 @@ recorded {s} {u} {r} {d = d} {k = k} shaped e t n h p =
     let told : d.answer ≡ (step s r lent).answer = ap (λ (x : Decision). x.answer) e ∙ decided-answer s r shaped in
     record {
       state = t.state;
-      line = put_as (numbers-line n k ∙ (λ i. line_of k (told i) (t.state i))) p;
-      short = omega (arith, p.ends, numbers-short n k h t.after.playable.shaped);
+      line = put_as (numbers_line n k ∙ (λ i. line_of k (told i) (t.state i))) p;
+      short = omega (arith, p.ends, numbers_short n k h t.after.playable.shaped);
     }

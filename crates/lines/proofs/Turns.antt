@@ -13,7 +13,7 @@ use Rattle.pala.specs.Answers.{taken}
 use Rattle.pala.specs.Lists.{final_names}
 use Rattle.pala.specs.Run.{lent}
 use Rattle.pala.specs.Step.{step}
-use Rattle.pala.proofs.Playing.{Playable, step-playable, names-stay}
+use Rattle.pala.proofs.Playing.{Playable, step_playable, names_stay}
 use Rattle.node.specs.declared.Decision.{Decision}
 use Rattle.node.specs.Moves.{decision}
 use Rattle.node.proofs.Calls.{decided-same}
@@ -30,13 +30,13 @@ pub record Turned (s : State) (r : List ℕ) (u : State) (names : ℕ) : Type 0 
 
 module _ (s : State) (r : List ℕ) {names : ℕ} (c : Counted s names) where
   -- taken: the names are counted anew where another final block is kept
-  pub turn-taken : {u : State} {some : ℕ} → u ≡ (step s r lent).state → some ≡ pick (eqb u.kept.0 s.kept.0) names (length (final_names u)) → Turned s r u some
-  turn-taken {u} {some} e f =
+  pub turn_taken : {u : State} {some : ℕ} → u ≡ (step s r lent).state → some ≡ pick (eqb u.kept.0 s.kept.0) names (length (final_names u)) → Turned s r u some
+  turn_taken {u} {some} e f =
       record {
         state = e;
         after =
             record {
-              playable = subst Playable (sym e) (step-playable s r lent c.playable);
+              playable = subst Playable (sym e) (step_playable s r lent c.playable);
               counted =
                   f
                   ∙ pick-case (λ (n : ℕ). n ≡ length (final_names u)) (eqb u.kept.0 s.kept.0) names (length (final_names u))
@@ -45,13 +45,13 @@ module _ (s : State) (r : List ℕ) {names : ℕ} (c : Counted s names) where
       }
     where
       stays : u.kept.0 ≡ s.kept.0 → final_names u ≡ final_names s
-      stays k = ap final_names e ∙ names-stay s r lent c.playable (ap (λ (x : State). x.kept.0) (sym e) ∙ k)
+      stays k = ap final_names e ∙ names_stay s r lent c.playable (ap (λ (x : State). x.kept.0) (sym e) ∙ k)
 
   -- "Refused records are passed over."
-  pub turn-refused : {d : Decision} → d ≡ decision s r → taken d.answer ≡ false → Turned s r s names
-  turn-refused e h =
+  pub turn_refused : {d : Decision} → d ≡ decision s r → taken d.answer ≡ false → Turned s r s names
+  turn_refused e h =
       record { state = sym (decided-same s r c.playable.shaped e h); after = c }
 
 -- the same state and the same count, otherwise worded
-pub turn-as : {s u v : State} {r : List ℕ} {m n : ℕ} → u ≡ v → m ≡ n → Turned s r v n → Turned s r u m
-turn-as {s} {r = r} e f = subst₂ (Turned s r) (sym e) (sym f)
+pub turn_as : {s u v : State} {r : List ℕ} {m n : ℕ} → u ≡ v → m ≡ n → Turned s r v n → Turned s r u m
+turn_as {s} {r = r} e f = subst₂ (Turned s r) (sym e) (sym f)

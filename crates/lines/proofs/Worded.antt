@@ -15,11 +15,11 @@ use Rattle.lines.specs.Text.{written, Put, numbers_most, Lined, worded_at}
 use Rattle.lines.proofs.Laws.{put_then, put_as, put-length, number-most, digits-most}
 
 -- a buffer that has no room for the longest such line stays as it is
-pub worded-none :
+pub worded_none :
     (k answer : ℕ) (word : List ℕ) (from : ℕ) (text : List ℕ) → length text < from + numbers_most + length word
     → ◌≡◌ {A = Lined} (record { length = from; text = text }) (worded_at k answer word from text)
 unfolding worded_at
-worded-none k answer word from text h =
+worded_none k answer word from text h =
     let fits : Bool = leb (from + numbers_most + length word) (length text) in
     let past : ℕ = from + length (worded k answer word) in
     let after : List ℕ = written text from (worded k answer word) in
@@ -30,9 +30,9 @@ abbrev space_after : ℕ → List ℕ
 space_after k = digits k ++ (space ∷ [])
 
 -- the parts of such a line, one after the other
-worded-parts : (k answer : ℕ) (word : List ℕ) → space_after k ++ space_after answer ++ word ++ (new_line ∷ []) ≡ worded k answer word
+worded_parts : (k answer : ℕ) (word : List ℕ) → space_after k ++ space_after answer ++ word ++ (new_line ∷ []) ≡ worded k answer word
 unfolding worded
-worded-parts k answer word =
+worded_parts k answer word =
     append_assoc (space_after k ++ space_after answer) word (new_line ∷ [])
     ∙ append_assoc (space_after k) (space_after answer) (word ++ (new_line ∷ []))
     ∙ append_snoc (digits k) space (space_after answer ++ (word ++ (new_line ∷ [])))
@@ -58,7 +58,7 @@ module _ {text : List ℕ} {from k answer : ℕ} {word : List ℕ} (h : Spacious
   worded-most =
       omega (
         arith,
-        ap length (worded-parts k answer word),
+        ap length (worded_parts k answer word),
         length-append (space_after k ++ space_after answer ++ word) (new_line ∷ []),
         length-append (space_after k ++ space_after answer) word,
         length-append (space_after k) (space_after answer),
@@ -85,29 +85,29 @@ module _ {text : List ℕ} {from k answer : ℕ} {word : List ℕ} (h : Spacious
         omega (arith, h.room, put-length (omega (arith, h.room, most)) p, p.ends, most, digits-most 19 answer (omega (arith, h.second)))
 
     module _ {b : ℕ} {y : List ℕ} (q : Put x a (space_after answer) b y) where
-      two-most : length (space_after k ++ space_after answer) ≤ 42
-      two-most = omega (arith, length-append (space_after k) (space_after answer), number-most k space h.first, number-most answer space h.second)
+      two_most : length (space_after k ++ space_after answer) ≤ 42
+      two_most = omega (arith, length-append (space_after k) (space_after answer), number-most k space h.first, number-most answer space h.second)
 
       two : Put text from (space_after k ++ space_after answer) b y
-      two = put_then (omega (arith, h.room, two-most, length-append (space_after k) (space_after answer))) p q
+      two = put_then (omega (arith, h.room, two_most, length-append (space_after k) (space_after answer))) p q
 
       pub word_fits : b + length word ≤ length y
-      word_fits = omega (arith, h.room, put-length (omega (arith, h.room, two-most)) two, two.ends, two-most)
+      word_fits = omega (arith, h.room, put-length (omega (arith, h.room, two_most)) two, two.ends, two_most)
 
       module _ {c : ℕ} {z : List ℕ} (w : Put y b word c z) where
-        three-most : length (space_after k ++ space_after answer ++ word) ≤ 42 + length word
-        three-most = omega (arith, length-append (space_after k ++ space_after answer) word, two-most)
+        three_most : length (space_after k ++ space_after answer ++ word) ≤ 42 + length word
+        three_most = omega (arith, length-append (space_after k ++ space_after answer) word, two_most)
 
         three : Put text from (space_after k ++ space_after answer ++ word) c z
-        three = put_then (omega (arith, h.room, two-most)) two w
+        three = put_then (omega (arith, h.room, two_most)) two w
 
         pub end_fits : c < length z
-        end_fits = omega (arith, h.room, put-length (omega (arith, h.room, three-most)) three, three.ends, three-most)
+        end_fits = omega (arith, h.room, put-length (omega (arith, h.room, three_most)) three, three.ends, three_most)
 
         pub worded-put :
             {past : ℕ} {after : List ℕ} → Put z c (new_line ∷ []) past after
             → ◌≡◌ {A = Lined} (record { length = past; text = after }) (worded_at k answer word from text)
         worded-put {past} {after} n =
             let all : Put text from (worded k answer word) past after =
-            put_as (worded-parts k answer word) (put_then (omega (arith, h.room, three-most)) three n) in
+            put_as (worded_parts k answer word) (put_then (omega (arith, h.room, three_most)) three n) in
             (λ i. record { length = all.ends i; text = all.holds i }) ∙ sym (worded-room h)

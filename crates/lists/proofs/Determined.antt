@@ -15,15 +15,15 @@ relation-one κs a r q s t = one-outcome
 code_one : (κs : _) (a : _) (r q : _) (s t : _) → code.Post κs a r s → code.Post κs a q t → r ≡ q
 code_one κs a r q s t = one-outcome
 
-final-count-one : (κs : _) (a : _) (r q : _) (s t : _) → final-count.Post κs a r s → final-count.Post κs a q t → r ≡ q
-final-count-one κs a r q s t = one-outcome
+final_count-one : (κs : _) (a : _) (r q : _) (s t : _) → final-count.Post κs a r s → final-count.Post κs a q t → r ≡ q
+final_count-one κs a r q s t = one-outcome
 
-final-list-one : (κs : _) (a : _) (r q : _) (s t : _) → final-list.Post κs a r s → final-list.Post κs a q t → (r ≡ q) × (s.1.0.now ≡ t.1.0.now)
-final-list-one κs a r q s t p h =
+final_list-one : (κs : _) (a : _) (r q : _) (s t : _) → final-list.Post κs a r s → final-list.Post κs a q t → (r ≡ q) × (s.1.0.now ≡ t.1.0.now)
+final_list-one κs a r q s t p h =
     (ap (λ (o : Listed). record { answer = o.answer; count = o.count }) (one-outcome p h), ap (λ (o : Listed). o.list) (one-outcome p h))
 
-final-list-shaped-one : (κs : _) (a : _) (r q : _) (s t : _) → final-list-shaped.Post κs a r s → final-list-shaped.Post κs a q t → (r ≡ q) × (s.1.0.now ≡ t.1.0.now)
-final-list-shaped-one κs a r q s t p h =
+final_list-shaped-one : (κs : _) (a : _) (r q : _) (s t : _) → final-list-shaped.Post κs a r s → final-list-shaped.Post κs a q t → (r ≡ q) × (s.1.0.now ≡ t.1.0.now)
+final_list-shaped-one κs a r q s t p h =
     (ap (λ (o : Listed). record { answer = o.answer; count = o.count }) (one-outcome p h), ap (λ (o : Listed). o.list) (one-outcome p h))
 
 -- the bytes of the tail, and where in the caller's own slices they begin

@@ -15,12 +15,12 @@ use Rattle.table.specs.Rows.{name_bytes, capacity, rows, at}
 use Rattle.table.specs.declared.Answer.{Answer}
 use Rattle.table.specs.declared.Block.{Block}
 use Rattle.table.specs.declared.State.{State}
-use Rattle.table.proofs.Laws.{pick_yes, pick_no, pick-case, fails, not-both, at_rows, at-past, size-rows}
+use Rattle.table.proofs.Laws.{pick_yes, pick_no, pick-case, fails, not_both, at_rows, at-past, size-rows}
 use Rattle.pala.specs.Rules.{lower, parent_of}
 use Rattle.pala.specs.Answers.{lowest_of, number, taken}
 use Rattle.pala.specs.Shape.{well_shaped}
 use Rattle.pala.specs.Lists.{Listed, list_answer, listed, final_list, joined, final_places, final_names}
-use Rattle.pala.proofs.Finals.{names_to, names-zero, names-up, names-up-length}
+use Rattle.pala.proofs.Finals.{names_to, names_zero, names_up, names_up_length}
 
 -- ---- how code reads a place
 
@@ -35,8 +35,8 @@ module _ (last p : ℕ) where
   pub row-past : last < p → row_of last p ≡ 0
   row-past h = pick_no _ _ _ (ap (λ (b : Bool). b && leb p capacity) (lt-leb p last h))
 
-  pub row-beyond : capacity < p → row_of last p ≡ 0
-  row-beyond h = pick_no _ _ _ (fails _ (λ e. not-both ((and-eq-true_iff (leb p last) (leb p capacity)).0 e).1 (lt-leb p capacity h)))
+  pub row_beyond : capacity < p → row_of last p ≡ 0
+  row_beyond h = pick_no _ _ _ (fails _ (λ e. not_both ((and-eq-true_iff (leb p last) (leb p capacity)).0 e).1 (lt-leb p capacity h)))
 
   pub row_below : row_of last p < suc capacity
   row_below = pick-case (λ (r : ℕ). r < suc capacity) _ p 0 (λ e. omega (arith, leb-true p capacity ((and-eq-true_iff (leb p last) (leb p capacity)).0 e).1)) (λ e. omega arith)
@@ -50,7 +50,7 @@ module _ (s : State) (d : Block) (p : ℕ) (held : length s.blocks ≡ suc capac
               | yes l ↦ at_rows s p d h (omega arith) ∙ ap (λ (r : ℕ). get_or s.blocks r d) (sym (row_in s.count p h l))
               | no l ↦
                   at-past s p d (omega arith) (omega (arith, size-rows s))
-                  ∙ ap (λ (r : ℕ). get_or s.blocks r d) (sym (row-beyond s.count p (omega arith)))
+                  ∙ ap (λ (r : ℕ). get_or s.blocks r d) (sym (row_beyond s.count p (omega arith)))
             ]
         | no h ↦
             at-past s p d (omega arith) (omega (arith, size-rows s))
@@ -58,8 +58,8 @@ module _ (s : State) (d : Block) (p : ℕ) (held : length s.blocks ≡ suc capac
       ]
 
   -- the block at a place, by its row
-  pub place-name : (r : ℕ) → r ≡ row_of s.count p → (get_or s.blocks r d).name ≡ (at (rows s) p).name
-  place-name r e = ap (λ (k : ℕ). (get_or s.blocks k d).name) e ∙ ap (λ (b : Block). b.name) (sym row_read)
+  pub place_name : (r : ℕ) → r ≡ row_of s.count p → (get_or s.blocks r d).name ≡ (at (rows s) p).name
+  place_name r e = ap (λ (k : ℕ). (get_or s.blocks k d).name) e ∙ ap (λ (b : Block). b.name) (sym row_read)
 
   pub next_place : (r q : ℕ) → r ≡ row_of s.count p → q ≡ pick (ltb (get_or s.blocks r d).parent.0 p) (get_or s.blocks r d).parent.0 0 → q ≡ parent_of (rows s) p
   unfolding parent_of lower
@@ -103,7 +103,7 @@ written_none s count whole e =
 
 pub written_all : (t : List Block) (names : List (List ℕ)) (whole : List ℕ) (p from : ℕ) (list : List ℕ) → p ≡ 0 → Written t names whole p from list → list ≡ joined names ++ drop (name_bytes * length names) whole
 written_all t names whole p from list z w =
-    let none : names_to t p ≡ [] = ap (λ (x : ℕ). names_to t x) z ∙ names-zero t in
+    let none : names_to t p ≡ [] = ap (λ (x : ℕ). names_to t x) z ∙ names_zero t in
     let start : from ≡ 0 = omega (arith, w.here, ap length none) in
     let all : names ≡ w.after = w.split ∙ ap (λ (l : List (List ℕ)). l ++ w.after) none in
     w.bytes
@@ -117,7 +117,7 @@ module _ (t : List Block) (names : List (List ℕ)) (whole : List ℕ) (p from :
   -- the name at p goes in front of what is written, and the next is its parent's
   module _ (below : 0 < p) where
     pub written_next : name_bytes ≤ from
-    written_next = omega (arith, w.here, names-up-length t p below)
+    written_next = omega (arith, w.here, names_up_length t p below)
 
     pub written_step : (q to : ℕ) (name more : List ℕ) → q ≡ parent_of t p → to + name_bytes ≡ from → name ≡ (at t p).name → more ≡ take to list ++ name ++ drop (to + name_bytes) list → Written t names whole q to more
     unfolding joined
@@ -130,11 +130,11 @@ module _ (t : List Block) (names : List (List ℕ)) (whole : List ℕ) (p from :
           after = name ∷ w.after;
           split =
               w.split
-              ∙ ap (λ (l : List (List ℕ)). l ++ w.after) (names-up t p below)
+              ∙ ap (λ (l : List (List ℕ)). l ++ w.after) (names_up t p below)
               ∙ append_snoc (names_to t (parent_of t p)) (at t p).name w.after
               ∙ ap (λ (x : List ℕ). names_to t (parent_of t p) ++ x ∷ w.after) (sym g)
               ∙ ap (λ (x : ℕ). names_to t x ++ name ∷ w.after) (sym e);
-          here = omega (arith, w.here, names-up-length t p below, ap (λ (x : ℕ). length (names_to t x)) e);
+          here = omega (arith, w.here, names_up_length t p below, ap (λ (x : ℕ). length (names_to t x)) e);
           bytes =
               m
               ∙ ap (λ (l : List ℕ). l ++ name ++ drop (to + name_bytes) list) front
@@ -149,18 +149,18 @@ abbrev reading : Answer → ℕ → List ℕ → Listed
 reading answer count list = record { answer = answer; count = count; list = list }
 
 module _ (s : State) (buffer : List ℕ) where
-  pub list-badly-shaped : well_shaped s ≡ false → reading Answer.State 0 buffer ≡ final_list s buffer
+  pub list_badly_shaped : well_shaped s ≡ false → reading Answer.State 0 buffer ≡ final_list s buffer
   unfolding pick taken number listed list_answer lowest_of final_list
-  list-badly-shaped h = sym (ap (λ (a : Answer). listed a s buffer) (pick_yes (not (well_shaped s)) _ _ (ap not h)))
+  list_badly_shaped h = sym (ap (λ (a : Answer). listed a s buffer) (pick_yes (not (well_shaped s)) _ _ (ap not h)))
 
   module _ (shaped : well_shaped s ≡ true) where
     roomy : list_answer s buffer ≡ pick (ltb (length buffer) (name_bytes * length (final_names s))) Answer.Length Answer.Taken
     unfolding list_answer lowest_of
     roomy = pick_no (not (well_shaped s)) _ _ (ap not shaped)
 
-    pub list-too-short : length buffer < name_bytes * length (final_names s) → reading Answer.Length 0 buffer ≡ final_list s buffer
+    pub list_too_short : length buffer < name_bytes * length (final_names s) → reading Answer.Length 0 buffer ≡ final_list s buffer
     unfolding pick taken number listed final_list
-    list-too-short h = sym (ap (λ (a : Answer). listed a s buffer) (roomy ∙ pick_yes _ _ _ (lt-ltb _ _ h)))
+    list_too_short h = sym (ap (λ (a : Answer). listed a s buffer) (roomy ∙ pick_yes _ _ _ (lt-ltb _ _ h)))
 
     pub list_read : (count : ℕ) (list : List ℕ) → name_bytes * length (final_names s) ≤ length buffer → count ≡ length (final_names s) → list ≡ joined (final_names s) ++ drop (name_bytes * length (final_names s)) buffer → reading Answer.Taken count list ≡ final_list s buffer
     unfolding pick taken number listed final_list

@@ -14,36 +14,36 @@ use Rattle.table.specs.Scan.{pick}
 use Rattle.table.specs.Bytes.{same}
 use Rattle.table.specs.Rows.{name_bytes}
 use Rattle.table.specs.declared.Relation.{Relation}
-use Rattle.table.proofs.Laws.{pick_yes, pick_no, pick-case, not-both, lowest-is, lowest-none, lowest-le, lowest-below, same_refl, same_true, same-all, same_differs}
+use Rattle.table.proofs.Laws.{pick_yes, pick_no, pick-case, not_both, lowest-is, lowest_none, lowest-le, lowest_below, same_refl, same_true, same_all, same_differs}
 use Rattle.pala.specs.Lists.{name_at, agreeing, broken, relation, relation_number, relation_index, tail, tail_of}
 use Rattle.pala.specs.Safety.{Begins}
 use Rattle.lists.specs.Tails.{past, tail_start}
 
 -- what does not fail passes
-not-of : (b : Bool) → (b ≡ false → ⊥) → b ≡ true
-not-of true h = refl
-not-of false h = absurd (h refl)
+not_of : (b : Bool) → (b ≡ false → ⊥) → b ≡ true
+not_of true h = refl
+not_of false h = absurd (h refl)
 
 -- ---- a name in a list of names
 
 abbrev pub name_from : List ℕ → ℕ → List ℕ
 name_from a from = take name_bytes (drop from a)
 
-name-byte : (a : List ℕ) (from i : ℕ) → i < name_bytes → get_or (name_from a from) i 0 ≡ get_or a (from + i) 0
-name-byte a from i h = get_or-take name_bytes (drop from a) i 0 h ∙ get_or-drop from a i 0
+name_byte : (a : List ℕ) (from i : ℕ) → i < name_bytes → get_or (name_from a from) i 0 ≡ get_or a (from + i) 0
+name_byte a from i h = get_or-take name_bytes (drop from a) i 0 h ∙ get_or-drop from a i 0
 
 name-length : (a : List ℕ) (from : ℕ) → from + name_bytes ≤ length a → length (name_from a from) ≡ name_bytes
 name-length a from h = length-take-le name_bytes (drop from a) (omega (arith, length-drop from a))
 
 -- two names, by their bytes: one that differs, or none
-pub names-differ : (a b : List ℕ) (from i : ℕ) → i < name_bytes → (get_or a (from + i) 0 ≡ get_or b (from + i) 0 → ⊥) → same (name_from a from) (name_from b from) ≡ false
-names-differ a b from i h differ =
-    same_differs (name_from a from) (name_from b from) i (λ e. differ (sym (name-byte a from i h) ∙ e ∙ name-byte b from i h))
+pub names_differ : (a b : List ℕ) (from i : ℕ) → i < name_bytes → (get_or a (from + i) 0 ≡ get_or b (from + i) 0 → ⊥) → same (name_from a from) (name_from b from) ≡ false
+names_differ a b from i h differ =
+    same_differs (name_from a from) (name_from b from) i (λ e. differ (sym (name_byte a from i h) ∙ e ∙ name_byte b from i h))
 
 pub names_same : (a b : List ℕ) (from : ℕ) → from + name_bytes ≤ length a → from + name_bytes ≤ length b → ((i : ℕ) → i < name_bytes → get_or a (from + i) 0 ≡ get_or b (from + i) 0) → same (name_from a from) (name_from b from) ≡ true
 names_same a b from p q agree =
-    same-all (name_from a from) (name_from b from) name_bytes (name-length a from p) (name-length b from q)
-    (λ i l. name-byte a from i l ∙ agree i l ∙ sym (name-byte b from i l))
+    same_all (name_from a from) (name_from b from) name_bytes (name-length a from p) (name-length b from q)
+    (λ i l. name_byte a from i l ∙ agree i l ∙ sym (name_byte b from i l))
 
 -- ---- how many names agree
 
@@ -56,27 +56,27 @@ unfolding agreeing name_at
 agreeing-is a b k l differ agree =
     lowest-is (in_both a b) (λ i. not (same (name_at a i) (name_at b i))) k l (ap not differ) (λ i m. ap not (agree i m))
 
-pub agreeing-all : (a b : List ℕ) → ((i : ℕ) → i < in_both a b → same (name_from a (name_bytes * i)) (name_from b (name_bytes * i)) ≡ true) → agreeing a b ≡ in_both a b
+pub agreeing_all : (a b : List ℕ) → ((i : ℕ) → i < in_both a b → same (name_from a (name_bytes * i)) (name_from b (name_bytes * i)) ≡ true) → agreeing a b ≡ in_both a b
 unfolding agreeing name_at
-agreeing-all a b agree =
-    lowest-none (in_both a b) (λ i. not (same (name_at a i) (name_at b i))) (λ i m. ap not (agree i m))
+agreeing_all a b agree =
+    lowest_none (in_both a b) (λ i. not (same (name_at a i) (name_at b i))) (λ i m. ap not (agree i m))
 
 pub agreeing-le : (a b : List ℕ) → agreeing a b ≤ in_both a b
 unfolding agreeing
 agreeing-le a b = lowest-le (in_both a b) (λ i. not (same (name_at a i) (name_at b i)))
 
 -- the names that agree are the same bytes
-agreeing-names : (a b : List ℕ) (i : ℕ) → i < agreeing a b → name_from a (name_bytes * i) ≡ name_from b (name_bytes * i)
+agreeing_names : (a b : List ℕ) (i : ℕ) → i < agreeing a b → name_from a (name_bytes * i) ≡ name_from b (name_bytes * i)
 unfolding agreeing name_at
-agreeing-names a b i l =
-    same_true (name_at a i) (name_at b i) (not-false (same (name_at a i) (name_at b i)) (lowest-below (in_both a b) (λ k. not (same (name_at a k) (name_at b k))) i l))
+agreeing_names a b i l =
+    same_true (name_at a i) (name_at b i) (not-false (same (name_at a i) (name_at b i)) (lowest_below (in_both a b) (λ k. not (same (name_at a k) (name_at b k))) i l))
 
 agreeing-bytes : (a b : List ℕ) (m : ℕ) → m ≤ agreeing a b → take (name_bytes * m) a ≡ take (name_bytes * m) b
 agreeing-bytes a b zero h = refl
 agreeing-bytes a b (suc m) h =
     let e : name_bytes * suc m ≡ name_bytes * m + name_bytes = omega arith in
     let before : take (name_bytes * m) a ≡ take (name_bytes * m) b = agreeing-bytes a b m (omega arith) in
-    let here : name_from a (name_bytes * m) ≡ name_from b (name_bytes * m) = agreeing-names a b m h in
+    let here : name_from a (name_bytes * m) ≡ name_from b (name_bytes * m) = agreeing_names a b m h in
     ap (λ (n : ℕ). take n a) e
     ∙ take-add (name_bytes * m) name_bytes a
     ∙ ap (λ (l : List ℕ). l ++ name_from a (name_bytes * m)) before
@@ -102,13 +102,13 @@ Says a b Relation.SecondLonger = Agree a b × (length a < length b)
 Says a b (Relation.Fork k) = Whole a b × (agreeing a b ≡ k) × (k < in_both a b)
 Says a b Relation.Broken = Whole a b → ⊥
 
-whole-not-broken : (a b : List ℕ) → Whole a b → broken a b ≡ false
+whole_not-broken : (a b : List ℕ) → Whole a b → broken a b ≡ false
 unfolding broken
-whole-not-broken a b w = rw (eq-eqb (length a % name_bytes) 0 w.0, eq-eqb (length b % name_bytes) 0 w.1)
+whole_not-broken a b w = rw (eq-eqb (length a % name_bytes) 0 w.0, eq-eqb (length b % name_bytes) 0 w.1)
 
-not-broken-whole : (a b : List ℕ) → broken a b ≡ false → Whole a b
+not-broken_whole : (a b : List ℕ) → broken a b ≡ false → Whole a b
 unfolding broken
-not-broken-whole a b h =
+not-broken_whole a b h =
     let both = (and-eq-true_iff (eqb (length a % name_bytes) 0) (eqb (length b % name_bytes) 0)).0 (not-false (eqb (length a % name_bytes) 0 && eqb (length b % name_bytes) 0) h) in
     (eqb-true (length a % name_bytes) 0 both.0, eqb-true (length b % name_bytes) 0 both.1)
 
@@ -117,11 +117,11 @@ pub relation-says : (a b : List ℕ) → Says a b (relation a b)
 unfolding relation
 relation-says a b =
     let P = Says a b in
-    let both : broken a b ≡ false → in_both a b ≤ agreeing a b → Agree a b = λ w l. (not-broken-whole a b w, omega (arith, agreeing-le a b)) in
-    pick-case P (broken a b) Relation.Broken _ (λ h w. not-both h (whole-not-broken a b w))
+    let both : broken a b ≡ false → in_both a b ≤ agreeing a b → Agree a b = λ w l. (not-broken_whole a b w, omega (arith, agreeing-le a b)) in
+    pick-case P (broken a b) Relation.Broken _ (λ h w. not_both h (whole_not-broken a b w))
     (λ w.
     pick-case P (ltb (agreeing a b) (in_both a b)) (Relation.Fork (agreeing a b)) _
-    (λ f. (not-broken-whole a b w, refl, ltb-true (agreeing a b) (in_both a b) f))
+    (λ f. (not-broken_whole a b w, refl, ltb-true (agreeing a b) (in_both a b) f))
     (λ f.
     let m : in_both a b ≤ agreeing a b = ltb-false (agreeing a b) (in_both a b) f in
     pick-case P (eqb (length a) (length b)) Relation.Equal _ (λ e. (both w m, eqb-true (length a) (length b) e))
@@ -137,7 +137,7 @@ module _ (a b : List ℕ) where
   agree-relation : Agree a b → relation a b ≡ pick (eqb (length a) (length b)) Relation.Equal (pick (ltb (length b) (length a)) Relation.FirstLonger Relation.SecondLonger)
   unfolding relation
   agree-relation h =
-      pick_no (broken a b) _ _ (whole-not-broken a b h.0)
+      pick_no (broken a b) _ _ (whole_not-broken a b h.0)
       ∙ pick_no (ltb (agreeing a b) (in_both a b)) _ _ (le-ltb (agreeing a b) (in_both a b) (omega arith))
 
   pub relation-is : (x : Relation) → Says a b x → relation a b ≡ x
@@ -152,16 +152,16 @@ module _ (a b : List ℕ) where
       ∙ pick_no _ _ _ (ne_eqb (length a) (length b) (λ e. omega arith))
       ∙ pick_no _ _ _ (le-ltb (length b) (length a) (omega arith))
   relation-is (Relation.Fork k) h =
-      pick_no (broken a b) _ _ (whole-not-broken a b h.0)
+      pick_no (broken a b) _ _ (whole_not-broken a b h.0)
       ∙ pick_yes (ltb (agreeing a b) (in_both a b)) _ _ (lt-ltb (agreeing a b) (in_both a b) (omega arith))
       ∙ ap (λ (i : ℕ). Relation.Fork i) h.1
   relation-is Relation.Broken h =
-      pick_yes (broken a b) _ _ (not-of (broken a b) (λ e. h (not-broken-whole a b e)))
+      pick_yes (broken a b) _ _ (not_of (broken a b) (λ e. h (not-broken_whole a b e)))
 
   -- an index is below the names that both lists have
-  pub relation-index : relation_index (relation a b) ≤ in_both a b
+  pub relation_index_lem : relation_index (relation a b) ≤ in_both a b
   unfolding relation_index
-  relation-index = index (relation a b) (relation-says a b)
+  relation_index_lem = index (relation a b) (relation-says a b)
     where
       index : (x : Relation) → Says a b x → relation_index x ≤ in_both a b
       index Relation.Equal h = zero-le
@@ -189,29 +189,29 @@ module _ (a b : List ℕ) where
   said : (x : Relation) → relation a b ≡ x → Says a b x
   said x e = subst (Says a b) e (relation-says a b)
 
-  pub first-longer : relation a b ≡ Relation.FirstLonger → length b < length a
-  first-longer r = (said Relation.FirstLonger r).1
+  pub first_longer : relation a b ≡ Relation.FirstLonger → length b < length a
+  first_longer r = (said Relation.FirstLonger r).1
 
-  pub second-longer : relation a b ≡ Relation.SecondLonger → length a < length b
-  second-longer r = (said Relation.SecondLonger r).1
+  pub second_longer : relation a b ≡ Relation.SecondLonger → length a < length b
+  second_longer r = (said Relation.SecondLonger r).1
 
   -- the lists are equal, or the longer is the shorter and then the tail
-  pub equal-same : relation a b ≡ Relation.Equal → a ≡ b
-  equal-same r =
+  pub equal_same : relation a b ≡ Relation.Equal → a ≡ b
+  equal_same r =
       let h = said Relation.Equal r in
       sym (take-length a) ∙ alike a b h.0 (length a) (omega arith) ∙ take_all (length a) b (omega arith)
 
-  pub first-longer-tail : relation a b ≡ Relation.FirstLonger → b ++ tail a b ≡ a
+  pub first_longer_tail : relation a b ≡ Relation.FirstLonger → b ++ tail a b ≡ a
   unfolding tail tail_of
-  first-longer-tail r =
+  first_longer_tail r =
       let h = said Relation.FirstLonger r in
       ap (λ (x : Relation). b ++ tail_of x a b) r
       ∙ ap (λ (l : List ℕ). l ++ drop (length b) a) (sym (alike a b h.0 (length b) (omega arith) ∙ take-length b))
       ∙ take-append-drop (length b) a
 
-  pub second-longer-tail : relation a b ≡ Relation.SecondLonger → a ++ tail a b ≡ b
+  pub second_longer_tail : relation a b ≡ Relation.SecondLonger → a ++ tail a b ≡ b
   unfolding tail tail_of
-  second-longer-tail r =
+  second_longer_tail r =
       let h = said Relation.SecondLonger r in
       ap (λ (x : Relation). a ++ tail_of x a b) r
       ∙ ap (λ (l : List ℕ). l ++ drop (length a) b) (sym (take-length a) ∙ alike a b h.0 (length a) (omega arith))
@@ -231,22 +231,22 @@ module _ (a b : List ℕ) where
       ]
 
   alike-agree : Whole a b → ((i : ℕ) → i < in_both a b → name_from a (name_bytes * i) ≡ name_from b (name_bytes * i)) → Agree a b
-  alike-agree w e = (w, agreeing-all a b (λ i m. ap (λ (x : List ℕ). same x (name_from b (name_bytes * i))) (e i m) ∙ same_refl (name_from b (name_bytes * i))))
+  alike-agree w e = (w, agreeing_all a b (λ i m. ap (λ (x : List ℕ). same x (name_from b (name_bytes * i))) (e i m) ∙ same_refl (name_from b (name_bytes * i))))
 
   -- of two lists of whole names one of which begins with the other the relation is 0, 1 or 2 ..
-  pub begins-no-fork : Whole a b → Begins a b ⊎ Begins b a → relation_number (relation a b) ≤ 2
-  begins-no-fork w (inl (rest, e)) = agree-number (alike-agree w (λ i m. begins-name a b rest e i (omega arith)))
-  begins-no-fork w (inr (rest, e)) = agree-number (alike-agree w (λ i m. sym (begins-name b a rest e i (omega arith))))
+  pub begins_no_fork : Whole a b → Begins a b ⊎ Begins b a → relation_number (relation a b) ≤ 2
+  begins_no_fork w (inl (rest, e)) = agree-number (alike-agree w (λ i m. begins-name a b rest e i (omega arith)))
+  begins_no_fork w (inr (rest, e)) = agree-number (alike-agree w (λ i m. sym (begins-name b a rest e i (omega arith))))
 
   -- .. and only of such
-  pub no-fork-begins : relation_number (relation a b) ≤ 2 → Begins a b ⊎ Begins b a
+  pub no_fork_begins : relation_number (relation a b) ≤ 2 → Begins a b ⊎ Begins b a
   unfolding relation_number
-  no-fork-begins h = found (relation a b) refl h
+  no_fork_begins h = found (relation a b) refl h
     where
       found : (x : Relation) → relation a b ≡ x → relation_number x ≤ 2 → Begins a b ⊎ Begins b a
-      found Relation.Equal r l = inl ([], append-nil a ∙ equal-same r)
-      found Relation.FirstLonger r l = inr (tail a b, first-longer-tail r)
-      found Relation.SecondLonger r l = inl (tail a b, second-longer-tail r)
+      found Relation.Equal r l = inl ([], append-nil a ∙ equal_same r)
+      found Relation.FirstLonger r l = inr (tail a b, first_longer_tail r)
+      found Relation.SecondLonger r l = inl (tail a b, second_longer_tail r)
       found (Relation.Fork k) r l = absurd (omega arith)
       found Relation.Broken r l = absurd (omega arith)
 
@@ -260,8 +260,8 @@ module _ (a b : List ℕ) (p q : ℕ × ℕ) (y : Relation) (found : y ≡ relat
   unfolding tail
   tail-is x e = (ap (λ (z : Relation). tail_of z a b) (sym e ∙ found), ap (λ (z : Relation). tail_start z a b p q) (sym e ∙ found))
 
-  pub empty-tail : (x : Relation) → tail_of x a b ≡ [] → tail_start x a b p q ≡ p → y ≡ x → TailIs [] (past p 0)
-  empty-tail x none start e =
+  pub empty_tail : (x : Relation) → tail_of x a b ≡ [] → tail_start x a b p q ≡ p → y ≡ x → TailIs [] (past p 0)
+  empty_tail x none start e =
       let here : past p 0 ≡ p = ap (λ (k : ℕ). (p.0, k)) (omega arith) in
       (sym none ∙ (tail-is x e).0, here ∙ sym start ∙ (tail-is x e).1)
 
@@ -270,7 +270,7 @@ module _ (a b : List ℕ) (p q : ℕ × ℕ) (y : Relation) (found : y ≡ relat
   first_tail e =
       (take_all (length a - length b) (drop (length b) a) (omega (arith, length-drop (length b) a)) ∙ (tail-is Relation.FirstLonger e).0, (tail-is Relation.FirstLonger e).1)
 
-  pub second-tail : y ≡ Relation.SecondLonger → TailIs (take (length b - length a) (drop (length a) b)) (past q (length a))
+  pub second_tail : y ≡ Relation.SecondLonger → TailIs (take (length b - length a) (drop (length a) b)) (past q (length a))
   unfolding tail_of tail_start
-  second-tail e =
+  second_tail e =
       (take_all (length b - length a) (drop (length a) b) (omega (arith, length-drop (length a) b)) ∙ (tail-is Relation.SecondLonger e).0, (tail-is Relation.SecondLonger e).1)

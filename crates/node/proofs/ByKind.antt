@@ -25,10 +25,10 @@ use Rattle.node.specs.Moves.{move_by, place_for, judged, decided}
 use Rattle.node.proofs.Ways.{Through, through}
 
 -- "or" as two rows
-pick-or : {A : Type 0} (a b : Bool) (x y : A) → pick (a || b) x y ≡ pick a x (pick b x y)
+pick_or : {A : Type 0} (a b : Bool) (x y : A) → pick (a || b) x y ≡ pick a x (pick b x y)
 unfolding pick
-pick-or true b x y = refl
-pick-or false b x y = refl
+pick_or true b x y = refl
+pick_or false b x y = refl
 
 -- the root and each block held
 abbrev Sized : State → Type 0
@@ -48,15 +48,15 @@ proposal_rows s f =
     ∷ (not (room s.count), Answer.Full)
     ∷ []
 
-proposal-rows : (s : State) (r : List ℕ) → Sized s → kind_of r ≡ proposal_heard → judged s r ≡ move_by (proposal_rows s (fields_of r)) (find (rows s) (fields_of r).parent)
+proposal_rows_lem : (s : State) (r : List ℕ) → Sized s → kind_of r ≡ proposal_heard → judged s r ≡ move_by (proposal_rows s (fields_of r)) (find (rows s) (fields_of r).parent)
 unfolding judged move_by lowest_of pick place_for picked shaped_rows bad_epoch bad_name unknown bad_order bad_turn repeats nothing full fields_of
-proposal-rows s r z k = simp (k, z, leb-suc-suc, or-false, pick-or)
+proposal_rows_lem s r z k = simp (k, z, leb-suc-suc, or-false, pick_or)
 
-pub proposal-judged : (s : State) (f : Fields) (m : Move) → Sized s → f.kind ≡ proposal_heard → Through (proposal_rows s f) (find (rows s) f.parent) m → (r : List ℕ) → f ≡ fields_of r → m ≡ judged s r
+pub proposal_judged : (s : State) (f : Fields) (m : Move) → Sized s → f.kind ≡ proposal_heard → Through (proposal_rows s f) (find (rows s) f.parent) m → (r : List ℕ) → f ≡ fields_of r → m ≡ judged s r
 unfolding fields_of
-proposal-judged s f m z k way r e =
+proposal_judged s f m z k way r e =
     subst (λ (g : Fields). g.kind ≡ proposal_heard → Through (proposal_rows s g) (find (rows s) g.parent) m → m ≡ judged s r) (sym e)
-    (λ h w. through w ∙ sym (proposal-rows s r z h)) k way
+    (λ h w. through w ∙ sym (proposal_rows_lem s r z h)) k way
 
 -- ---- vote
 
@@ -69,7 +69,7 @@ vote_rows s f =
 
 vote-rows : (s : State) (r : List ℕ) → Sized s → kind_of r ≡ vote_heard → judged s r ≡ move_by (vote_rows s (fields_of r)) (find (rows s) (fields_of r).name)
 unfolding judged move_by lowest_of pick place_for picked shaped_rows bad_epoch bad_name unknown bad_order bad_turn repeats nothing full fields_of
-vote-rows s r z k = simp (k, z, or-false, pick-or)
+vote-rows s r z k = simp (k, z, or-false, pick_or)
 
 pub vote-judged : (s : State) (f : Fields) (m : Move) → Sized s → f.kind ≡ vote_heard → Through (vote_rows s f) (find (rows s) f.name) m → (r : List ℕ) → f ≡ fields_of r → m ≡ judged s r
 unfolding fields_of
@@ -108,15 +108,15 @@ propose_rows s f =
     ∷ (not (room s.count), Answer.Full)
     ∷ []
 
-propose-rows : (s : State) (r : List ℕ) → Sized s → kind_of r ≡ propose_now → judged s r ≡ move_by (propose_rows s (fields_of r)) (freshest s.n (rows s))
+propose_rows_lem : (s : State) (r : List ℕ) → Sized s → kind_of r ≡ propose_now → judged s r ≡ move_by (propose_rows s (fields_of r)) (freshest s.n (rows s))
 unfolding judged move_by lowest_of pick place_for picked shaped_rows bad_epoch bad_name unknown bad_order bad_turn repeats nothing full fields_of
-propose-rows s r z k = simp (k, z, leb-suc-suc, or-false, pick-or)
+propose_rows_lem s r z k = simp (k, z, leb-suc-suc, or-false, pick_or)
 
-pub propose-judged : (s : State) (f : Fields) (m : Move) → Sized s → f.kind ≡ propose_now → Through (propose_rows s f) (freshest s.n (rows s)) m → (r : List ℕ) → f ≡ fields_of r → m ≡ judged s r
+pub propose_judged : (s : State) (f : Fields) (m : Move) → Sized s → f.kind ≡ propose_now → Through (propose_rows s f) (freshest s.n (rows s)) m → (r : List ℕ) → f ≡ fields_of r → m ≡ judged s r
 unfolding fields_of
-propose-judged s f m z k way r e =
+propose_judged s f m z k way r e =
     subst (λ (g : Fields). g.kind ≡ propose_now → Through (propose_rows s g) (freshest s.n (rows s)) m → m ≡ judged s r) (sym e)
-    (λ h w. through w ∙ sym (propose-rows s r z h)) k way
+    (λ h w. through w ∙ sym (propose_rows_lem s r z h)) k way
 
 -- ---- cast
 
@@ -143,21 +143,21 @@ minute_rows s f =
     ∷ (ltb s.local.0 (clock_of s.clocks s.own.0), Answer.Repeat)
     ∷ []
 
-minute-rows : (s : State) (r : List ℕ) → Sized s → kind_of r ≡ minute_up → judged s r ≡ move_by (minute_rows s (fields_of r)) (0)
+minute_rows_lem : (s : State) (r : List ℕ) → Sized s → kind_of r ≡ minute_up → judged s r ≡ move_by (minute_rows s (fields_of r)) (0)
 unfolding judged move_by lowest_of pick place_for picked shaped_rows bad_epoch bad_name unknown bad_order bad_turn repeats nothing full fields_of
-minute-rows s r z k = simp (k, add-one)
+minute_rows_lem s r z k = simp (k, add-one)
 
-pub minute-judged : (s : State) (f : Fields) (m : Move) → Sized s → f.kind ≡ minute_up → Through (minute_rows s f) (0) m → (r : List ℕ) → f ≡ fields_of r → m ≡ judged s r
+pub minute_judged : (s : State) (f : Fields) (m : Move) → Sized s → f.kind ≡ minute_up → Through (minute_rows s f) (0) m → (r : List ℕ) → f ≡ fields_of r → m ≡ judged s r
 unfolding fields_of
-minute-judged s f m z k way r e =
+minute_judged s f m z k way r e =
     subst (λ (g : Fields). g.kind ≡ minute_up → Through (minute_rows s g) (0) m → m ≡ judged s r) (sym e)
-    (λ h w. through w ∙ sym (minute-rows s r z h)) k way
+    (λ h w. through w ∙ sym (minute_rows_lem s r z h)) k way
 
 -- ---- every kind: rows 4 to 6, before the others
 
-not-and : (a b : Bool) → not (a && b) ≡ (not a || not b)
-not-and true b = refl
-not-and false b = refl
+not_and : (a b : Bool) → not (a && b) ≡ (not a || not b)
+not_and true b = refl
+not_and false b = refl
 
 abbrev pub first_rows : State → Fields → List (Bool × Answer) → List (Bool × Answer)
 first_rows s f more =
@@ -170,9 +170,9 @@ first_rows s f more =
 
 first_rows_lem : (s : State) (r : List ℕ) → decided s r ≡ move_by (first_rows s (fields_of r) (drop 5 (shaped_rows room s r []))) (place_for s r)
 unfolding decided move_by lowest_of shaped_rows known_kind bad_sender heard fields_of
-first_rows_lem s r = simp (not-and, pick-or)
+first_rows_lem s r = simp (not_and, pick_or)
 
-pub first-decided : (s : State) (f : Fields) (m : Move) (r : List ℕ) → f ≡ fields_of r → Through (first_rows s f (drop 5 (shaped_rows room s r []))) (place_for s r) m → m ≡ decided s r
-first-decided s f m r e way =
+pub first_decided : (s : State) (f : Fields) (m : Move) (r : List ℕ) → f ≡ fields_of r → Through (first_rows s f (drop 5 (shaped_rows room s r []))) (place_for s r) m → m ≡ decided s r
+first_decided s f m r e way =
     subst (λ (g : Fields). Through (first_rows s g (drop 5 (shaped_rows room s r []))) (place_for s r) m → m ≡ decided s r) (sym e)
     (λ w. through w ∙ sym (first_rows_lem s r)) way

@@ -20,7 +20,7 @@ use Rattle.pala.specs.Run.{lent}
 use Rattle.pala.specs.Shape.{well_shaped}
 use Rattle.pala.specs.Step.{Outcome, Started, outcome, room, step_shaped, step, start}
 use Rattle.pala.specs.Steps.{fresh_epoch, settled}
-use Rattle.pala.proofs.Calls.{step_is, step-any-out}
+use Rattle.pala.proofs.Calls.{step_is, step_any_out}
 use Rattle.pala.proofs.Moves.{passed}
 use Rattle.pala.proofs.Shapes.{and_l}
 use Rattle.record.specs.declared.Fields.{Fields}
@@ -28,7 +28,7 @@ use Rattle.record.specs.Fields.{fields_of, no_fields}
 use Rattle.node.specs.declared.Decision.{Decision}
 use Rattle.node.specs.declared.Move.{Move}
 use Rattle.node.specs.Moves.{move_by, place_for, decided, decision, Granted}
-use Rattle.node.proofs.Ways.{through, row-yes, row-no}
+use Rattle.node.proofs.Ways.{through, row_yes, row_no}
 use Rattle.node.proofs.Ways.Through.{refuses, passes, rests}
 use Rattle.node.proofs.Settles.{effect-fresh}
 
@@ -39,9 +39,9 @@ replied a t o = record { answer = a; state = t; out = o }
 -- ---- by the answer
 
 module _ (s : State) (r out : List ℕ) {a : Answer} where
-  outcome-refused : taken a ≡ false → replied a s out ≡ outcome a s r out
+  outcome_refused : taken a ≡ false → replied a s out ≡ outcome a s r out
   unfolding outcome
-  outcome-refused h =
+  outcome_refused h =
       ap (λ (t : State). replied a t out) (sym (pick_no (taken a) (settled (effect s r)) s h))
       ∙ ap (λ (o : List ℕ). replied a (pick (taken a) (settled (effect s r)) s) o) (sym (pick_no (taken a) (sent s r out) out h))
 
@@ -51,77 +51,77 @@ module _ (s : State) (r out : List ℕ) {a : Answer} where
       ap (λ (x : State). replied a x o) (e ∙ sym (pick_yes (taken a) (settled (effect s r)) s h))
       ∙ ap (λ (x : List ℕ). replied a (pick (taken a) (settled (effect s r)) s) x) (d ∙ sym (pick_yes (taken a) (sent s r out) out h))
 
-  pub call-refused : taken a ≡ false → lowest_of (shaped_rows room s r out) ≡ a → replied a s out ≡ step_shaped room s r out
+  pub call_refused : taken a ≡ false → lowest_of (shaped_rows room s r out) ≡ a → replied a s out ≡ step_shaped room s r out
   unfolding step_shaped
-  call-refused h e = outcome-refused h ∙ ap (λ (x : Answer). outcome x s r out) (sym e)
+  call_refused h e = outcome_refused h ∙ ap (λ (x : Answer). outcome x s r out) (sym e)
 
-  pub call-taken : {t : State} {o : List ℕ} → taken a ≡ true → lowest_of (shaped_rows room s r out) ≡ a → t ≡ settled (effect s r) → o ≡ sent s r out → replied a t o ≡ step_shaped room s r out
+  pub call_taken : {t : State} {o : List ℕ} → taken a ≡ true → lowest_of (shaped_rows room s r out) ≡ a → t ≡ settled (effect s r) → o ≡ sent s r out → replied a t o ≡ step_shaped room s r out
   unfolding step_shaped
-  call-taken h e w d = outcome-taken h w d ∙ ap (λ (x : Answer). outcome x s r out) (sym e)
+  call_taken h e w d = outcome-taken h w d ∙ ap (λ (x : Answer). outcome x s r out) (sym e)
 
 -- ---- rows 2 and 3
 
 module _ (r out : List ℕ) where
-  pub record-off : (length r ≡ record_bytes → ⊥) → bad_length r out ≡ true
+  pub record_off : (length r ≡ record_bytes → ⊥) → bad_length r out ≡ true
   unfolding bad_length
-  record-off h = ap (λ (b : Bool). not (b && eqb (length out) record_bytes)) (ne_eqb (length r) record_bytes h)
+  record_off h = ap (λ (b : Bool). not (b && eqb (length out) record_bytes)) (ne_eqb (length r) record_bytes h)
 
-  pub out-off : (length out ≡ record_bytes → ⊥) → bad_length r out ≡ true
+  pub out_off : (length out ≡ record_bytes → ⊥) → bad_length r out ≡ true
   unfolding bad_length
-  out-off h =
+  out_off h =
       ap (λ (b : Bool). not (eqb (length r) record_bytes && b)) (ne_eqb (length out) record_bytes h) ∙ ap not (and-false (eqb (length r) record_bytes))
 
-  pub both-whole : length r ≡ record_bytes → length out ≡ record_bytes → bad_length r out ≡ false
+  pub both_whole : length r ≡ record_bytes → length out ≡ record_bytes → bad_length r out ≡ false
   unfolding bad_length
-  both-whole h k =
+  both_whole h k =
       ap (λ (b : Bool). not (b && eqb (length out) record_bytes)) (eq-eqb (length r) record_bytes h)
       ∙ ap (λ (b : Bool). not b) (eq-eqb (length out) record_bytes k)
 
 module _ (s : State) (r out : List ℕ) where
-  pub row-torn : s.torn ≡ true → lowest_of (shaped_rows room s r out) ≡ Answer.Torn
+  pub row_torn : s.torn ≡ true → lowest_of (shaped_rows room s r out) ≡ Answer.Torn
   unfolding shaped_rows
-  row-torn h = row-yes s.torn Answer.Torn (drop 1 (shaped_rows room s r out)) h
+  row_torn h = row_yes s.torn Answer.Torn (drop 1 (shaped_rows room s r out)) h
 
   pub row-length : s.torn ≡ false → bad_length r out ≡ true → lowest_of (shaped_rows room s r out) ≡ Answer.Length
   unfolding shaped_rows
   row-length w h =
-      row-no s.torn Answer.Torn (drop 1 (shaped_rows room s r out)) w
-      ∙ row-yes (bad_length r out) Answer.Length (drop 2 (shaped_rows room s r out)) h
+      row_no s.torn Answer.Torn (drop 1 (shaped_rows room s r out)) w
+      ∙ row_yes (bad_length r out) Answer.Length (drop 2 (shaped_rows room s r out)) h
 
 -- ---- what is decided of a record of any length
 
 -- the out buffer that a loop lends has 96 bytes
-lent-whole : length lent ≡ record_bytes
+lent_whole : length lent ≡ record_bytes
 unfolding lent
-lent-whole = length-replicate {A = ℕ} record_bytes 0
+lent_whole = length-replicate {A = ℕ} record_bytes 0
 
 module _ (s : State) (r : List ℕ) where
-  decision-by : {f : Fields} {m : Move} → f ≡ pick (eqb (length r) record_bytes) (fields_of r) no_fields → m ≡ move_by (shaped_rows room s r lent) (place_for s r) → record { fields = f; answer = m.answer; place = m.place } ≡ decision s r
+  decision_by : {f : Fields} {m : Move} → f ≡ pick (eqb (length r) record_bytes) (fields_of r) no_fields → m ≡ move_by (shaped_rows room s r lent) (place_for s r) → record { fields = f; answer = m.answer; place = m.place } ≡ decision s r
   unfolding decision
-  decision-by e h = λ i. record { fields = e i; answer = (h i).answer; place = (h i).place }
+  decision_by e h = λ i. record { fields = e i; answer = (h i).answer; place = (h i).place }
 
   module _ {f : Fields} (e : f ≡ pick (eqb (length r) record_bytes) (fields_of r) no_fields) where
-    pub decided-torn : s.torn ≡ true → record { fields = f; answer = Answer.Torn; place = record { 0 = 0 } } ≡ decision s r
+    pub decided_torn : s.torn ≡ true → record { fields = f; answer = Answer.Torn; place = record { 0 = 0 } } ≡ decision s r
     unfolding shaped_rows taken
-    decided-torn h = decision-by e (through (refuses h refl))
+    decided_torn h = decision_by e (through (refuses h refl))
 
-    pub decided-short : s.torn ≡ false → (length r ≡ record_bytes → ⊥) → record { fields = f; answer = Answer.Length; place = record { 0 = 0 } } ≡ decision s r
+    pub decided_short : s.torn ≡ false → (length r ≡ record_bytes → ⊥) → record { fields = f; answer = Answer.Length; place = record { 0 = 0 } } ≡ decision s r
     unfolding shaped_rows taken
-    decided-short w h = decision-by e (through (passes w (refuses (record-off r lent h) refl)))
+    decided_short w h = decision_by e (through (passes w (refuses (record_off r lent h) refl)))
 
-    pub decided-whole : {m : Move} → s.torn ≡ false → length r ≡ record_bytes → ((x : List ℕ) → f ≡ fields_of x → m ≡ decided s x) → record { fields = f; answer = m.answer; place = m.place } ≡ decision s r
+    pub decided_whole : {m : Move} → s.torn ≡ false → length r ≡ record_bytes → ((x : List ℕ) → f ≡ fields_of x → m ≡ decided s x) → record { fields = f; answer = m.answer; place = m.place } ≡ decision s r
     unfolding shaped_rows decided
-    decided-whole w h d =
-        decision-by e
+    decided_whole w h d =
+        decision_by e
         (through {p = place_for s r}
         (passes w
-        (passes {more = drop 2 (shaped_rows room s r lent)} (both-whole r lent h lent-whole)
+        (passes {more = drop 2 (shaped_rows room s r lent)} (both_whole r lent h lent_whole)
         (rests (d r (e ∙ pick_yes (eqb (length r) record_bytes) (fields_of r) no_fields (eq-eqb (length r) record_bytes h)))))))
 
   -- a record that is taken is whole
-  taken-whole : taken (lowest_of (shaped_rows room s r lent)) ≡ true → eqb (length r) record_bytes ≡ true
+  taken_whole : taken (lowest_of (shaped_rows room s r lent)) ≡ true → eqb (length r) record_bytes ≡ true
   unfolding bad_length
-  taken-whole h = and_l (eqb (length r) record_bytes) (eqb (length lent) record_bytes) (not-false _ (passed room s r lent h).lengths)
+  taken_whole h = and_l (eqb (length r) record_bytes) (eqb (length lent) record_bytes) (not-false _ (passed room s r lent h).lengths)
 
   pub granted : {d : Decision} → d ≡ decision s r → taken d.answer ≡ true → Granted s d.fields d.place r
   unfolding decision move_by
@@ -129,7 +129,7 @@ module _ (s : State) (r : List ℕ) where
       let takes : taken (lowest_of (shaped_rows room s r lent)) ≡ true = ap (λ (x : Decision). taken x.answer) (sym e) ∙ t in
       record {
         out = lent;
-        fields = ap (λ (x : Decision). x.fields) e ∙ pick_yes (eqb (length r) record_bytes) (fields_of r) no_fields (taken-whole takes);
+        fields = ap (λ (x : Decision). x.fields) e ∙ pick_yes (eqb (length r) record_bytes) (fields_of r) no_fields (taken_whole takes);
         takes = takes;
         there = ap (λ (x : Decision). x.place.0) e ∙ pick_yes (taken (lowest_of (shaped_rows room s r lent))) (place_for s r) 0 takes;
       }
@@ -161,28 +161,28 @@ module _ (s : State) (r : List ℕ) where
     unfolding step_shaped outcome
     decided-rows out l e =
         ap (λ (o : Outcome). o.answer) (sym (step_is s r out h))
-        ∙ (step-any-out s r out lent l lent-whole).1
+        ∙ (step_any_out s r out lent l lent_whole).1
         ∙ sym (ap (λ (x : Decision). x.answer) e ∙ decided-answer)
 
 -- after its direct effect there is an epoch above the freshest one
-pub granted-fresh :
+pub granted_fresh :
     {s t : State} {f : Fields} {place : Place} {r : List ℕ} → length s.blocks ≡ suc capacity → well_shaped s ≡ true →
     Granted s f place r → t ≡ effect s r → fresh_epoch t < top_epoch
-granted-fresh {s} {r = r} l h g e =
+granted_fresh {s} {r = r} l h g e =
     subst (λ (x : State). fresh_epoch x < top_epoch) (sym e) (effect-fresh s r g.out l h g.takes)
 
 -- ---- any state
 
-pub call-unshaped : (s : State) (r out : List ℕ) → well_shaped s ≡ false → replied Answer.State s out ≡ step s r out
+pub call_unshaped : (s : State) (r out : List ℕ) → well_shaped s ≡ false → replied Answer.State s out ≡ step s r out
 unfolding step all_rows taken
-call-unshaped s r out h =
-    outcome-refused s r out refl
-    ∙ ap (λ (x : Answer). outcome x s r out) (sym (row-yes (not (well_shaped s)) Answer.State (shaped_rows room s r out) (ap not h)))
+call_unshaped s r out h =
+    outcome_refused s r out refl
+    ∙ ap (λ (x : Answer). outcome x s r out) (sym (row_yes (not (well_shaped s)) Answer.State (shaped_rows room s r out) (ap not h)))
 
-pub call-shaped : (s : State) (r out : List ℕ) → well_shaped s ≡ true → step_shaped room s r out ≡ step s r out
+pub call_shaped : (s : State) (r out : List ℕ) → well_shaped s ≡ true → step_shaped room s r out ≡ step s r out
 unfolding step step_shaped all_rows
-call-shaped s r out h =
-    ap (λ (x : Answer). outcome x s r out) (sym (row-no (not (well_shaped s)) Answer.State (shaped_rows room s r out) (ap not h)))
+call_shaped s r out h =
+    ap (λ (x : Answer). outcome x s r out) (sym (row_no (not (well_shaped s)) Answer.State (shaped_rows room s r out) (ap not h)))
 
 -- ---- a start
 
@@ -190,9 +190,9 @@ abbrev pub began : Answer → State → Started
 began a t = record { answer = a; state = t }
 
 module _ (n own : ℕ) {t : State} where
-  pub start-refused : nodes n own ≡ false → t ≡ all_zero → began Answer.Setup t ≡ start n own
+  pub start_refused : nodes n own ≡ false → t ≡ all_zero → began Answer.Setup t ≡ start n own
   unfolding start
-  start-refused h e =
+  start_refused h e =
       ap (λ (x : State). began Answer.Setup x) (e ∙ sym (pick_no (nodes n own) (fresh n own) all_zero h))
       ∙ ap (λ (a : Answer). began a (pick (nodes n own) (fresh n own) all_zero)) (sym (pick_no (nodes n own) Answer.Taken Answer.Setup h))
 

@@ -9,8 +9,8 @@ use Rattle.pala.specs.Step.{Outcome, Started}
 use Rattle.node.proofs.start.Reads as start
 use Rattle.table.proofs.Laws.{one-outcome}
 
-number-of-one : (κs : _) (a : _) (r q : _) (s t : _) → number_of_lem.Post κs a r s → number_of_lem.Post κs a q t → r ≡ q
-number-of-one κs a r q s t = one-outcome
+number_of_one : (κs : _) (a : _) (r q : _) (s t : _) → number_of_lem.Post κs a r s → number_of_lem.Post κs a q t → r ≡ q
+number_of_one κs a r q s t = one-outcome
 
 is-taken-one : (κs : _) (a : _) (r q : _) (s t : _) → is-taken.Post κs a r s → is-taken.Post κs a q t → r ≡ q
 is-taken-one κs a r q s t = one-outcome
@@ -22,8 +22,8 @@ step-one κs a r q s t p h =
 start-one : (κs : _) (a : _) (r q : _) (s t : _) → start.Post κs a r s → start.Post κs a q t → r ≡ q
 start-one κs a r q s t p h = ap (λ (o : Started). record { answer = o.answer; state = o.state }) (one-outcome p h)
 
-decide-shaped-one : (κs : _) (a : _) (r q : _) (s t : _) → decide-shaped.Post κs a r s → decide-shaped.Post κs a q t → r ≡ q
-decide-shaped-one κs a r q s t = one-outcome
+decide_shaped-one : (κs : _) (a : _) (r q : _) (s t : _) → decide-shaped.Post κs a r s → decide-shaped.Post κs a q t → r ≡ q
+decide_shaped-one κs a r q s t = one-outcome
 
 -- its state is said for every record that was so decided, and there is one
 take-shaped-one : (κs : _) (a : _) (r q : _) (s t : _) → take-shaped.Pre κs a → take-shaped.Post κs a r s → take-shaped.Post κs a q t → r ≡ q

@@ -24,44 +24,44 @@ use Rattle.rules.specs.declared.Top.{Top}
 pub le_yes : {x k n : ℕ} → x ≡ k → x ≤ n → leb k n ≡ true
 le_yes {k = k} {n = n} e h = le-leb k n (omega arith)
 
-pub le-no : {x k n : ℕ} → x ≡ k → n < x → leb k n ≡ false
-le-no {k = k} {n = n} e h = lt-leb k n (omega arith)
+pub le_no : {x k n : ℕ} → x ≡ k → n < x → leb k n ≡ false
+le_no {k = k} {n = n} e h = lt-leb k n (omega arith)
 
-pub least-yes : {x k n : ℕ} → x ≡ k → n ≤ x → leb n k ≡ true
-least-yes {k = k} {n = n} e h = le-leb n k (omega arith)
+pub least_yes : {x k n : ℕ} → x ≡ k → n ≤ x → leb n k ≡ true
+least_yes {k = k} {n = n} e h = le-leb n k (omega arith)
 
-pub least-no : {x k n : ℕ} → x ≡ k → x < n → leb n k ≡ false
-least-no {k = k} {n = n} e h = lt-leb n k (omega arith)
+pub least_no : {x k n : ℕ} → x ≡ k → x < n → leb n k ≡ false
+least_no {k = k} {n = n} e h = lt-leb n k (omega arith)
 
-pub past-yes : {x k n : ℕ} → x ≡ k → n < x → ltb n k ≡ true
-past-yes {k = k} {n = n} e h = lt-ltb n k (omega arith)
+pub past_yes : {x k n : ℕ} → x ≡ k → n < x → ltb n k ≡ true
+past_yes {k = k} {n = n} e h = lt-ltb n k (omega arith)
 
-pub past-no : {x k n : ℕ} → x ≡ k → x ≤ n → ltb n k ≡ false
-past-no {k = k} {n = n} e h = le-ltb n k (omega arith)
+pub past_no : {x k n : ℕ} → x ≡ k → x ≤ n → ltb n k ≡ false
+past_no {k = k} {n = n} e h = le-ltb n k (omega arith)
 
-pub is-yes : {x k n : ℕ} → x ≡ k → x ≡ n → eqb k n ≡ true
-is-yes {k = k} {n = n} e h = eq-eqb k n (sym e ∙ h)
+pub is_yes : {x k n : ℕ} → x ≡ k → x ≡ n → eqb k n ≡ true
+is_yes {k = k} {n = n} e h = eq-eqb k n (sym e ∙ h)
 
-pub is-no : {x k n : ℕ} → x ≡ k → (x ≡ n → ⊥) → eqb k n ≡ false
-is-no {k = k} {n = n} e h = ne_eqb k n (λ q. h (e ∙ q))
+pub is_no : {x k n : ℕ} → x ≡ k → (x ≡ n → ⊥) → eqb k n ≡ false
+is_no {k = k} {n = n} e h = ne_eqb k n (λ q. h (e ∙ q))
 
 -- a negated test
-pub not-is-yes : {a b : ℕ} → (a ≡ b → ⊥) → not (eqb a b) ≡ true
-not-is-yes {a} {b} h = ap not (ne_eqb a b h)
+pub not-is_yes : {a b : ℕ} → (a ≡ b → ⊥) → not (eqb a b) ≡ true
+not-is_yes {a} {b} h = ap not (ne_eqb a b h)
 
-pub not-is-no : {a b : ℕ} → a ≡ b → not (eqb a b) ≡ false
-not-is-no {a} {b} h = ap not (eq-eqb a b h)
+pub not-is_no : {a b : ℕ} → a ≡ b → not (eqb a b) ≡ false
+not-is_no {a} {b} h = ap not (eq-eqb a b h)
 
 -- what a search found: its place, the epoch and the voters of its block
-pub found-place : {x : Found} {k : ℕ} {b : Block} → x ≡ record { place = record { 0 = k }; block = b } → x.place.0 ≡ k
-found-place e = ap (λ (y : Found). y.place.0) e
+pub found_place : {x : Found} {k : ℕ} {b : Block} → x ≡ record { place = record { 0 = k }; block = b } → x.place.0 ≡ k
+found_place e = ap (λ (y : Found). y.place.0) e
 
-pub epoch-found : (t : List Block) {x : Found} {k : ℕ} → x ≡ record { place = record { 0 = k }; block = at t k } → x.block.epoch.0 ≡ epoch_at t k
+pub epoch_found : (t : List Block) {x : Found} {k : ℕ} → x ≡ record { place = record { 0 = k }; block = at t k } → x.block.epoch.0 ≡ epoch_at t k
 unfolding epoch_at
-epoch-found t e = ap (λ (y : Found). y.block.epoch.0) e
+epoch_found t e = ap (λ (y : Found). y.block.epoch.0) e
 
-pub voter-found : (t : List Block) (i : ℕ) {v : Bool} {x : Found} {k : ℕ} → v ≡ has_voter x.block i → x ≡ record { place = record { 0 = k }; block = at t k } → has_voter (at t k) i ≡ v
-voter-found t i h e = sym (h ∙ ap (λ (y : Found). has_voter y.block i) e)
+pub voter_found : (t : List Block) (i : ℕ) {v : Bool} {x : Found} {k : ℕ} → v ≡ has_voter x.block i → x ≡ record { place = record { 0 = k }; block = at t k } → has_voter (at t k) i ≡ v
+voter_found t i h e = sym (h ∙ ap (λ (y : Found). has_voter y.block i) e)
 
 -- the place that a rule tells
 pub number : {p : Place} {k : ℕ} → p ≡ record { 0 = k } → p.0 ≡ k
@@ -72,9 +72,9 @@ pub kept-clock : {x : Epoch} {k : ℕ} → x ≡ record { 0 = k } → x.0 ≡ k
 kept-clock e = ap (λ (y : Epoch). y.0) e
 
 -- the epoch of the freshest block
-pub top-epoch : (s : State) {x : Top} → x ≡ record { place = record { 0 = freshest s.n (rows s) }; epoch = record { 0 = fresh_epoch s } } → x.epoch.0 ≡ epoch_at (rows s) (freshest s.n (rows s))
+pub top_epoch_lem : (s : State) {x : Top} → x ≡ record { place = record { 0 = freshest s.n (rows s) }; epoch = record { 0 = fresh_epoch s } } → x.epoch.0 ≡ epoch_at (rows s) (freshest s.n (rows s))
 unfolding fresh_epoch
-top-epoch s e = ap (λ (x : Top). x.epoch.0) e
+top_epoch_lem s e = ap (λ (x : Top). x.epoch.0) e
 
 -- the root and each block held
 pub sized : (s : State) → well_shaped s ≡ true → length s.blocks ≡ suc capacity → size (rows s) ≡ suc s.count

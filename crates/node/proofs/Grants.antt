@@ -21,7 +21,7 @@ use Rattle.pala.specs.Step.{room}
 use Rattle.pala.proofs.Keeps.{size-shaped}
 use Rattle.pala.proofs.Moves.{Passed, passed}
 use Rattle.pala.proofs.Shapes.{and_l, and_r, shaped-nodes}
-use Rattle.pala.proofs.Tests.{nor-l, nor-r, nand}
+use Rattle.pala.proofs.Tests.{nor_l, nor_r, nand}
 use Rattle.record.specs.declared.Fields.{Fields}
 use Rattle.record.specs.Fields.{fields_of}
 use Rattle.node.specs.Moves.{place_for, Granted}
@@ -29,9 +29,9 @@ use Rattle.node.specs.Moves.{place_for, Granted}
 -- ---- the direct effect of each kind
 
 module _ (s : State) (r : List ℕ) (p : ℕ) (there : p ≡ place_for s r) where
-  proposal-effect : kind_of r ≡ proposal_heard → with_block s (new_block (name_of r) (epoch_of r) p (payload_of r)) s.proposed.0 ≡ effect s r
+  proposal_effect_lem : kind_of r ≡ proposal_heard → with_block s (new_block (name_of r) (epoch_of r) p (payload_of r)) s.proposed.0 ≡ effect s r
   unfolding effect proposal_effect place_for pick
-  proposal-effect k = simp (there, k)
+  proposal_effect_lem k = simp (there, k)
 
   vote-effect : kind_of r ≡ vote_heard → with_vote s p (sender_of r) s.voted.0 ≡ effect s r
   unfolding effect vote_effect place_for pick
@@ -41,64 +41,64 @@ module _ (s : State) (r : List ℕ) (p : ℕ) (there : p ≡ place_for s r) wher
   unfolding effect clock_effect pick
   clock-effect k = simp k
 
-  propose-effect : kind_of r ≡ propose_now → with_block s (new_block (name_of r) s.local.0 p (payload_of r)) s.local.0 ≡ effect s r
+  propose_effect_lem : kind_of r ≡ propose_now → with_block s (new_block (name_of r) s.local.0 p (payload_of r)) s.local.0 ≡ effect s r
   unfolding effect propose_effect place_for pick
-  propose-effect k = simp (there, k)
+  propose_effect_lem k = simp (there, k)
 
   cast-effect : kind_of r ≡ cast_now → with_vote s p s.own.0 s.local.0 ≡ effect s r
   unfolding effect cast_effect place_for pick
   cast-effect k = simp (there, k)
 
-  minute-effect : kind_of r ≡ minute_up → with_clock s s.own.0 (s.local.0 + 1) ≡ effect s r
+  minute_effect_lem : kind_of r ≡ minute_up → with_clock s s.own.0 (s.local.0 + 1) ≡ effect s r
   unfolding effect minute_effect pick
-  minute-effect k = simp k
+  minute_effect_lem k = simp k
 
 -- ---- what the rows passed tell
 
 module _ {s : State} {f : Fields} {place : Place} {r : List ℕ} (g : Granted s f place r) where
-  rows-passed : Passed room s r g.out
-  rows-passed = passed room s r g.out g.takes
+  rows_passed : Passed room s r g.out
+  rows_passed = passed room s r g.out g.takes
 
-  pub of-kind : {k : ℕ} → f.kind ≡ k → kind_of r ≡ k
+  pub of_kind : {k : ℕ} → f.kind ≡ k → kind_of r ≡ k
   unfolding fields_of
-  of-kind e = sym (ap (λ (x : Fields). x.kind) g.fields) ∙ e
+  of_kind e = sym (ap (λ (x : Fields). x.kind) g.fields) ∙ e
 
   -- what is said of the record's fields is said of these
-  pub by-fields : (P : Fields → Type 0) → P (fields_of r) → P f
-  by-fields P h = subst P (sym g.fields) h
+  pub by_fields_lem : (P : Fields → Type 0) → P (fields_of r) → P f
+  by_fields_lem P h = subst P (sym g.fields) h
 
   -- a kind that is none of the first five is the sixth
   pub last-kind : (f.kind ≡ proposal_heard → ⊥) → (f.kind ≡ vote_heard → ⊥) → (f.kind ≡ clock_heard → ⊥) → (f.kind ≡ propose_now → ⊥) → (f.kind ≡ cast_now → ⊥) → f.kind ≡ minute_up
   unfolding known_kind fields_of
   last-kind a b c d e =
-      let known : known_kind r ≡ true = not-false (known_kind r) rows-passed.kind in
+      let known : known_kind r ≡ true = not-false (known_kind r) rows_passed.kind in
       let least : proposal_heard ≤ kind_of r = leb-true proposal_heard (kind_of r) (and_l (leb proposal_heard (kind_of r)) (leb (kind_of r) minute_up) known) in
       let most : kind_of r ≤ minute_up = leb-true (kind_of r) minute_up (and_r (leb proposal_heard (kind_of r)) (leb (kind_of r) minute_up) known) in
       let same : f.kind ≡ kind_of r = ap (λ (x : Fields). x.kind) g.fields in
       omega arith
 
   -- "kinds 1, 4: 64 blocks held"
-  pub room-left : {k : ℕ} → f.kind ≡ k → (eqb k proposal_heard || eqb k propose_now) ≡ true → s.count < capacity
+  pub room_left : {k : ℕ} → f.kind ≡ k → (eqb k proposal_heard || eqb k propose_now) ≡ true → s.count < capacity
   unfolding full room
-  room-left {k} e h =
-      let kinds : (eqb (kind_of r) proposal_heard || eqb (kind_of r) propose_now) ≡ true = ap (λ (x : ℕ). eqb x proposal_heard || eqb x propose_now) (of-kind e) ∙ h in
-      ltb-true s.count capacity (not-false (ltb s.count capacity) (nand (eqb (kind_of r) proposal_heard || eqb (kind_of r) propose_now) (not (ltb s.count capacity)) rows-passed.room kinds))
+  room_left {k} e h =
+      let kinds : (eqb (kind_of r) proposal_heard || eqb (kind_of r) propose_now) ≡ true = ap (λ (x : ℕ). eqb x proposal_heard || eqb x propose_now) (of_kind e) ∙ h in
+      ltb-true s.count capacity (not-false (ltb s.count capacity) (nand (eqb (kind_of r) proposal_heard || eqb (kind_of r) propose_now) (not (ltb s.count capacity)) rows_passed.room kinds))
 
   -- "Kinds 4, 6: local epoch is 4,294,967,295"
-  pub minute-left : f.kind ≡ minute_up → s.local.0 < top_epoch
+  pub minute_left : f.kind ≡ minute_up → s.local.0 < top_epoch
   unfolding bad_epoch
-  minute-left e = leb-false top_epoch s.local.0 (simp (of-kind e) at rows-passed.epoch)
+  minute_left e = leb-false top_epoch s.local.0 (simp (of_kind e) at rows_passed.epoch)
 
   module _ (h : well_shaped s ≡ true) where
     -- "own number below n", "sender at or above n"
     pub own_below : s.own.0 < most_nodes
     own_below = omega (arith, shaped-nodes s h)
 
-    pub sender-below : f.sender.0 < most_nodes
+    pub sender_below : f.sender.0 < most_nodes
     unfolding bad_sender fields_of
-    sender-below =
+    sender_below =
         let same : f.sender.0 ≡ sender_of r = ap (λ (x : Fields). x.sender.0) g.fields in
-        let low : sender_of r < s.n = leb-false s.n (sender_of r) (nor-l _ _ rows-passed.sender) in
+        let low : sender_of r < s.n = leb-false s.n (sender_of r) (nor_l _ _ rows_passed.sender) in
         omega (arith, shaped-nodes s h)
 
     module _ (l : length s.blocks ≡ suc capacity) where
@@ -106,50 +106,50 @@ module _ {s : State} {f : Fields} {place : Place} {r : List ℕ} (g : Granted s 
       pub vote-held : f.kind ≡ vote_heard → place.0 ≤ s.count
       unfolding unknown place_for pick
       vote-held e =
-          let at-find : place.0 ≡ find (rows s) (name_of r) = g.there ∙ simp (of-kind e) in
+          let at-find : place.0 ≡ find (rows s) (name_of r) = g.there ∙ simp (of_kind e) in
           let place_of : ℕ = find (rows s) (name_of r) in
-          let known : (eqb place_of 0 || leb (size (rows s)) place_of) ≡ false = simp (of-kind e) at rows-passed.known in
-          let low : place_of < size (rows s) = leb-false (size (rows s)) place_of (nor-r (eqb place_of 0) (leb (size (rows s)) place_of) known) in
+          let known : (eqb place_of 0 || leb (size (rows s)) place_of) ≡ false = simp (of_kind e) at rows_passed.known in
+          let low : place_of < size (rows s) = leb-false (size (rows s)) place_of (nor_r (eqb place_of 0) (leb (size (rows s)) place_of) known) in
           omega (arith, size-shaped s l h)
 
       -- "kind 5: no block may be voted for"
       pub cast-held : f.kind ≡ cast_now → place.0 ≤ s.count
       unfolding nothing place_for pick picked
       cast-held e =
-          let at-picked : place.0 ≡ picked s = g.there ∙ simp (of-kind e) in
-          let low : picked s < size (rows s) = leb-false (size (rows s)) (picked s) (simp (of-kind e) at rows-passed.ballots) in
+          let at-picked : place.0 ≡ picked s = g.there ∙ simp (of_kind e) in
+          let low : picked s < size (rows s) = leb-false (size (rows s)) (picked s) (simp (of_kind e) at rows_passed.ballots) in
           omega (arith, size-shaped s l h)
 
   -- ---- its effect, in the words of the fields
 
-  pub proposal-done : f.kind ≡ proposal_heard → {b : Block} → b ≡ new_block f.name f.epoch.0 place.0 f.payload → with_block s b s.proposed.0 ≡ effect s r
+  pub proposal_done : f.kind ≡ proposal_heard → {b : Block} → b ≡ new_block f.name f.epoch.0 place.0 f.payload → with_block s b s.proposed.0 ≡ effect s r
   unfolding fields_of
-  proposal-done e new =
+  proposal_done e new =
       ap (λ (x : Block). with_block s x s.proposed.0) new
-      ∙ by-fields (λ (x : Fields). x.kind ≡ proposal_heard → with_block s (new_block x.name x.epoch.0 place.0 x.payload) s.proposed.0 ≡ effect s r)
-      (proposal-effect s r place.0 g.there) e
+      ∙ by_fields_lem (λ (x : Fields). x.kind ≡ proposal_heard → with_block s (new_block x.name x.epoch.0 place.0 x.payload) s.proposed.0 ≡ effect s r)
+      (proposal_effect_lem s r place.0 g.there) e
 
   pub vote-done : f.kind ≡ vote_heard → with_vote s place.0 f.sender.0 s.voted.0 ≡ effect s r
   unfolding fields_of
   vote-done =
-      by-fields (λ (x : Fields). x.kind ≡ vote_heard → with_vote s place.0 x.sender.0 s.voted.0 ≡ effect s r)
+      by_fields_lem (λ (x : Fields). x.kind ≡ vote_heard → with_vote s place.0 x.sender.0 s.voted.0 ≡ effect s r)
       (vote-effect s r place.0 g.there)
 
   pub clock-done : f.kind ≡ clock_heard → with_clock s f.sender.0 f.epoch.0 ≡ effect s r
   unfolding fields_of
   clock-done =
-      by-fields (λ (x : Fields). x.kind ≡ clock_heard → with_clock s x.sender.0 x.epoch.0 ≡ effect s r)
+      by_fields_lem (λ (x : Fields). x.kind ≡ clock_heard → with_clock s x.sender.0 x.epoch.0 ≡ effect s r)
       (clock-effect s r place.0 g.there)
 
-  pub propose-done : f.kind ≡ propose_now → {b : Block} → b ≡ new_block f.name s.local.0 place.0 f.payload → with_block s b s.local.0 ≡ effect s r
+  pub propose_done : f.kind ≡ propose_now → {b : Block} → b ≡ new_block f.name s.local.0 place.0 f.payload → with_block s b s.local.0 ≡ effect s r
   unfolding fields_of
-  propose-done e new =
+  propose_done e new =
       ap (λ (x : Block). with_block s x s.local.0) new
-      ∙ by-fields (λ (x : Fields). x.kind ≡ propose_now → with_block s (new_block x.name s.local.0 place.0 x.payload) s.local.0 ≡ effect s r)
-      (propose-effect s r place.0 g.there) e
+      ∙ by_fields_lem (λ (x : Fields). x.kind ≡ propose_now → with_block s (new_block x.name s.local.0 place.0 x.payload) s.local.0 ≡ effect s r)
+      (propose_effect_lem s r place.0 g.there) e
 
   pub cast-done : f.kind ≡ cast_now → with_vote s place.0 s.own.0 s.local.0 ≡ effect s r
-  cast-done e = cast-effect s r place.0 g.there (of-kind e)
+  cast-done e = cast-effect s r place.0 g.there (of_kind e)
 
-  pub minute-done : f.kind ≡ minute_up → with_clock s s.own.0 (s.local.0 + 1) ≡ effect s r
-  minute-done e = minute-effect s r place.0 g.there (of-kind e)
+  pub minute_done : f.kind ≡ minute_up → with_clock s s.own.0 (s.local.0 + 1) ≡ effect s r
+  minute_done e = minute_effect_lem s r place.0 g.there (of_kind e)

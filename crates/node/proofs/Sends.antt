@@ -20,14 +20,14 @@ use Rattle.pala.specs.Shape.{well_shaped}
 use Rattle.record.specs.declared.Fields.{Fields}
 use Rattle.record.specs.Fields.{fields_of}
 use Rattle.node.specs.Moves.{place_for, Granted}
-use Rattle.node.proofs.Grants.{of-kind, by-fields, own_below}
+use Rattle.node.proofs.Grants.{of_kind, by_fields_lem, own_below}
 
 -- ---- what each kind sends
 
 module _ (s : State) (r : List ℕ) (p : ℕ) (there : p ≡ place_for s r) (out : List ℕ) where
-  proposal-said : kind_of r ≡ propose_now → message proposal_heard s.own.0 s.local.0 (name_of r) (at (rows s) p).name (payload_of r) ≡ sent s r out
+  proposal_said : kind_of r ≡ propose_now → message proposal_heard s.own.0 s.local.0 (name_of r) (at (rows s) p).name (payload_of r) ≡ sent s r out
   unfolding sent place_for pick
-  proposal-said k = simp (there, k)
+  proposal_said k = simp (there, k)
 
   vote-said : kind_of r ≡ cast_now → message vote_heard s.own.0 0 (at (rows s) p).name no_name no_payload ≡ sent s r out
   unfolding sent place_for pick
@@ -62,17 +62,17 @@ module _ {s : State} {f : Fields} {place : Place} {r : List ℕ} (g : Granted s 
         ∙ ap (λ (k : ℕ). message k (n.sender.0 % 256) n.epoch.0 n.name n.parent n.payload) kind
         ∙ ap (λ (i : ℕ). message n.kind i n.epoch.0 n.name n.parent n.payload) byte
 
-    pub proposal-sent :
+    pub proposal_sent :
         f.kind ≡ propose_now → {x : List ℕ} {m : Fields} {b : Block} → b ≡ at (rows s) place.0 →
         m ≡ record { name = f.name; parent = b.name; payload = f.payload; epoch = s.local; sender = s.own; kind = proposal_heard; clean = true } →
         x ≡ pick (eqb (length out) record_bytes) (message (m.kind % 256) (m.sender.0 % 256) m.epoch.0 m.name m.parent m.payload) out →
         x ≡ sent s r out
     unfolding fields_of
-    proposal-sent k row e w =
+    proposal_sent k row e w =
         wrote e refl refl w
         ∙ ap (λ (y : Block). message proposal_heard s.own.0 s.local.0 f.name y.name f.payload) row
-        ∙ by-fields g (λ (y : Fields). y.kind ≡ propose_now → message proposal_heard s.own.0 s.local.0 y.name (at (rows s) place.0).name y.payload ≡ sent s r out)
-        (proposal-said s r place.0 g.there out) k
+        ∙ by_fields_lem g (λ (y : Fields). y.kind ≡ propose_now → message proposal_heard s.own.0 s.local.0 y.name (at (rows s) place.0).name y.payload ≡ sent s r out)
+        (proposal_said s r place.0 g.there out) k
 
     pub vote-sent :
         f.kind ≡ cast_now → {x : List ℕ} {m : Fields} {b : Block} → b ≡ at (rows s) place.0 →
@@ -82,11 +82,11 @@ module _ {s : State} {f : Fields} {place : Place} {r : List ℕ} (g : Granted s 
     vote-sent k row e w =
         wrote e refl refl w
         ∙ ap (λ (y : Block). message vote_heard s.own.0 0 y.name no_name no_payload) row
-        ∙ vote-said s r place.0 g.there out (of-kind g k)
+        ∙ vote-said s r place.0 g.there out (of_kind g k)
 
     pub clock-sent :
         f.kind ≡ minute_up → {x : List ℕ} {m : Fields} →
         m ≡ record { name = no_name; parent = no_name; payload = no_payload; epoch = record { 0 = s.local.0 + 1 }; sender = s.own; kind = clock_heard; clean = true } →
         x ≡ pick (eqb (length out) record_bytes) (message (m.kind % 256) (m.sender.0 % 256) m.epoch.0 m.name m.parent m.payload) out →
         x ≡ sent s r out
-    clock-sent k e w = wrote e refl refl w ∙ clock-said s r place.0 g.there out (of-kind g k)
+    clock-sent k e w = wrote e refl refl w ∙ clock-said s r place.0 g.there out (of_kind g k)

@@ -26,7 +26,7 @@ use Rattle.rules.specs.declared.Standing.{Standing}
 use Rattle.rules.specs.declared.columns.Columns.{Columns}
 use Rattle.rules.specs.Columns.{columns}
 use Rattle.rules.specs.Standing.{standing_by}
-use Rattle.rules.proofs.Shown.{standing, standing-shown}
+use Rattle.rules.proofs.Shown.{standing, standing_shown}
 use Rattle.node.specs.declared.effects.Effect.{Effect}
 use Rattle.node.specs.Done.{done}
 
@@ -41,22 +41,22 @@ done-rows s e l = length-set s.blocks e.row.0 e.block ∙ l
 pub stands :
     (t : State) → length t.blocks ≡ suc capacity → (c : Columns) → c ≡ columns t → (stand : Standing) →
     stand ≡ standing_by c t.clocks t.n t.local.0 t.kept.0 → stand ≡ standing t
-stands t l c e stand h = h ∙ standing-shown t l c e
+stands t l c e stand h = h ∙ standing_shown t l c e
 
 module _ (s : State) (stand : Standing) (local bar : Epoch) (kept : Place) (e : stand ≡ standing s) where
   -- "the greatest of the old one, the freshest epoch + 1, and the number c"
-  local-is : local ≡ record { 0 = max stand.clock.0 (stand.fresh.0 + 1) } → local.0 ≡ new_local s
+  local_is : local ≡ record { 0 = max stand.clock.0 (stand.fresh.0 + 1) } → local.0 ≡ new_local s
   unfolding standing new_local
-  local-is l =
+  local_is l =
       let fresh : stand.fresh.0 ≡ fresh_epoch s = ap (λ (x : Standing). x.fresh.0) e in
       let clock = ap (λ (x : Standing). x.clock.0) e in
       let new : local.0 ≡ max stand.clock.0 (stand.fresh.0 + 1) = ap (λ (x : Epoch). x.0) l in
       omega arith
 
   -- "If it rose, the bar becomes the freshest block's epoch."
-  bar-is : local.0 ≡ new_local s → bar ≡ record { 0 = pick (ltb s.local.0 local.0) stand.fresh.0 s.bar.0 } → bar.0 ≡ new_bar s
+  bar_is : local.0 ≡ new_local s → bar ≡ record { 0 = pick (ltb s.local.0 local.0) stand.fresh.0 s.bar.0 } → bar.0 ≡ new_bar s
   unfolding standing new_bar
-  bar-is l b =
+  bar_is l b =
       ap (λ (x : Epoch). x.0) b
       ∙ ap (λ (x : ℕ). pick (ltb s.local.0 x) stand.fresh.0 s.bar.0) l
       ∙ ap (λ (x : Standing). pick (ltb s.local.0 (new_local s)) x.fresh.0 s.bar.0) e
@@ -68,9 +68,9 @@ module _ (s : State) (stand : Standing) (local bar : Epoch) (kept : Place) (e : 
       ap (λ (x : Place). x.0) k ∙ ap (λ (x : Standing). pick x.forward x.candidate.0 s.kept.0) e
 
   -- "Otherwise it stays and the state is torn"
-  torn-is : (s.torn || not (stand.forward || stand.back)) ≡ new_torn s
+  torn_is : (s.torn || not (stand.forward || stand.back)) ≡ new_torn s
   unfolding standing new_torn
-  torn-is = ap (λ (x : Standing). s.torn || not (x.forward || x.back)) e
+  torn_is = ap (λ (x : Standing). s.torn || not (x.forward || x.back)) e
 
 -- a state with what the steps change
 abbrev pub after : State → ℕ → ℕ → ℕ → Bool → State
@@ -98,11 +98,11 @@ pub settles :
     after s local.0 bar.0 kept.0 (s.torn || not (stand.forward || stand.back)) ≡ settled s
 unfolding settled
 settles s stand local bar kept e l b k =
-    let new : local.0 ≡ new_local s = local-is s stand local bar kept e l in
+    let new : local.0 ≡ new_local s = local_is s stand local bar kept e l in
     ap (λ (x : ℕ). after s x bar.0 kept.0 (s.torn || not (stand.forward || stand.back))) new
-    ∙ ap (λ (x : ℕ). after s (new_local s) x kept.0 (s.torn || not (stand.forward || stand.back))) (bar-is s stand local bar kept e new b)
+    ∙ ap (λ (x : ℕ). after s (new_local s) x kept.0 (s.torn || not (stand.forward || stand.back))) (bar_is s stand local bar kept e new b)
     ∙ ap (λ (x : ℕ). after s (new_local s) (new_bar s) x (s.torn || not (stand.forward || stand.back))) (kept-is s stand local bar kept e k)
-    ∙ ap (λ (x : Bool). after s (new_local s) (new_bar s) (new_kept s) x) (torn-is s stand local bar kept e)
+    ∙ ap (λ (x : Bool). after s (new_local s) (new_bar s) (new_kept s) x) (torn_is s stand local bar kept e)
 
 -- ---- the freshest epoch
 
@@ -114,14 +114,14 @@ fresh-held s =
     (λ (e : (freshest s.n (rows s) < size (rows s)) × (firm s.n (rows s) (freshest s.n (rows s)) ≡ true)). omega (arith, size-rows s))
     (highest-passes (size (rows s)) (λ p. firm s.n (rows s) p) (λ p. epoch_at (rows s) p))
 
-pub fresh-below : (s : State) → well_shaped s ≡ true → fresh_epoch s < top_epoch
+pub fresh_below : (s : State) → well_shaped s ≡ true → fresh_epoch s < top_epoch
 unfolding fresh_epoch
-fresh-below s h = shaped-epoch s h (freshest s.n (rows s)) (fresh-held s)
+fresh_below s h = shaped-epoch s h (freshest s.n (rows s)) (fresh-held s)
 
 -- the steps leave the table as it is
-settled-below : (s : State) → well_shaped (settled s) ≡ true → fresh_epoch s < top_epoch
+settled_below : (s : State) → well_shaped (settled s) ≡ true → fresh_epoch s < top_epoch
 unfolding settled rows fresh_epoch
-settled-below s h = fresh-below (settled s) h
+settled_below s h = fresh_below (settled s) h
 
 -- after the direct effect of a taken record it still has an epoch above it
 pub effect-fresh :
@@ -129,5 +129,5 @@ pub effect-fresh :
     taken (lowest_of (shaped_rows room s r out)) ≡ true → fresh_epoch (effect s r) < top_epoch
 unfolding step_shaped outcome
 effect-fresh s r out l h t =
-    settled-below (effect s r)
+    settled_below (effect s r)
     (ap well_shaped (sym (pick_yes (taken (lowest_of (shaped_rows room s r out))) (settled (effect s r)) s t)) ∙ step-shaped s r out l h)

@@ -19,15 +19,15 @@ use Rattle.node.specs.declared.effects.Effect.{Effect}
 use Rattle.node.specs.Done.{done, Does}
 
 module _ (s : State) (l : length s.blocks ≡ suc capacity) where
-  block-stored : (b : Block) (proposed : ℕ) → s.count < capacity → put s (set s.blocks (s.count + 1) b) (s.count + 1) s.clocks s.voted.0 proposed ≡ with_block s b proposed
+  block_stored : (b : Block) (proposed : ℕ) → s.count < capacity → put s (set s.blocks (s.count + 1) b) (s.count + 1) s.clocks s.voted.0 proposed ≡ with_block s b proposed
   unfolding with_block
-  block-stored b proposed h =
+  block_stored b proposed h =
       ap (λ (k : ℕ). put s (set s.blocks k b) k s.clocks s.voted.0 proposed) (add-one s.count)
       ∙ ap (λ (x : List Block). put s x (suc s.count) s.clocks s.voted.0 proposed) (sym (laid-set s.blocks (suc s.count) b (omega arith)))
 
-  vote-stored : (p i voted : ℕ) (b : Block) → p ≤ s.count → s.count ≤ capacity → b ≡ with_voter (at (rows s) p) i → put s (set s.blocks p b) s.count s.clocks voted s.proposed.0 ≡ with_vote s p i voted
+  vote_stored : (p i voted : ℕ) (b : Block) → p ≤ s.count → s.count ≤ capacity → b ≡ with_voter (at (rows s) p) i → put s (set s.blocks p b) s.count s.clocks voted s.proposed.0 ≡ with_vote s p i voted
   unfolding with_vote
-  vote-stored p i voted b h k e =
+  vote_stored p i voted b h k e =
       let inside : p < length s.blocks = omega arith in
       ap (λ (x : Block). put s (set s.blocks p x) s.count s.clocks voted s.proposed.0) e
       ∙ ap (λ (x : List Block). put s x s.count s.clocks voted s.proposed.0) (sym (laid-set s.blocks p (with_voter (at (rows s) p) i) inside))
@@ -40,34 +40,34 @@ module _ (s : State) (l : length s.blocks ≡ suc capacity) where
 
 -- what stands is written as it stands
 module _ (s : State) where
-  clock-stands : (i : ℕ) (clock d : Epoch) → clock ≡ get_or s.clocks i d → set s.clocks i clock ≡ s.clocks
-  clock-stands i clock d e = ap (set s.clocks i) e ∙ set-get_or s.clocks i d
+  clock_stands : (i : ℕ) (clock d : Epoch) → clock ≡ get_or s.clocks i d → set s.clocks i clock ≡ s.clocks
+  clock_stands i clock d e = ap (set s.clocks i) e ∙ set-get_or s.clocks i d
 
-  pub block-does : length s.blocks ≡ suc capacity → (b : Block) (clock proposed d : Epoch) → s.count < capacity → s.own.0 < most_nodes → clock ≡ get_or s.clocks s.own.0 d → Does s (record { row = record { 0 = s.count + 1 }; block = b; who = s.own; clock = clock; count = s.count + 1; voted = s.voted; proposed = proposed }) (with_block s b proposed.0)
+  pub block_does : length s.blocks ≡ suc capacity → (b : Block) (clock proposed d : Epoch) → s.count < capacity → s.own.0 < most_nodes → clock ≡ get_or s.clocks s.own.0 d → Does s (record { row = record { 0 = s.count + 1 }; block = b; who = s.own; clock = clock; count = s.count + 1; voted = s.voted; proposed = proposed }) (with_block s b proposed.0)
   unfolding done
-  block-does l b clock proposed d h o e =
+  block_does l b clock proposed d h o e =
       record {
         makes =
-            ap (λ (x : List Epoch). put s (set s.blocks (s.count + 1) b) (s.count + 1) x s.voted.0 proposed.0) (clock-stands s.own.0 clock d e)
-            ∙ block-stored s l b proposed.0 h;
+            ap (λ (x : List Epoch). put s (set s.blocks (s.count + 1) b) (s.count + 1) x s.voted.0 proposed.0) (clock_stands s.own.0 clock d e)
+            ∙ block_stored s l b proposed.0 h;
         row = omega arith;
         who = o;
       }
 
-  pub vote-does : length s.blocks ≡ suc capacity → (p : Place) (i : ℕ) (clock voted d : Epoch) (b x : Block) → x ≡ at (rows s) p.0 → p.0 ≤ s.count → s.count ≤ capacity → s.own.0 < most_nodes → b ≡ with_voter x i → clock ≡ get_or s.clocks s.own.0 d → Does s (record { row = p; block = b; who = s.own; clock = clock; count = s.count; voted = voted; proposed = s.proposed }) (with_vote s p.0 i voted.0)
+  pub vote_does : length s.blocks ≡ suc capacity → (p : Place) (i : ℕ) (clock voted d : Epoch) (b x : Block) → x ≡ at (rows s) p.0 → p.0 ≤ s.count → s.count ≤ capacity → s.own.0 < most_nodes → b ≡ with_voter x i → clock ≡ get_or s.clocks s.own.0 d → Does s (record { row = p; block = b; who = s.own; clock = clock; count = s.count; voted = voted; proposed = s.proposed }) (with_vote s p.0 i voted.0)
   unfolding done
-  vote-does l p i clock voted d b x held h k o w e =
+  vote_does l p i clock voted d b x held h k o w e =
       record {
         makes =
-            ap (λ (y : List Epoch). put s (set s.blocks p.0 b) s.count y voted.0 s.proposed.0) (clock-stands s.own.0 clock d e)
-            ∙ vote-stored s l p.0 i voted.0 b h k (w ∙ ap (λ (y : Block). with_voter y i) held);
+            ap (λ (y : List Epoch). put s (set s.blocks p.0 b) s.count y voted.0 s.proposed.0) (clock_stands s.own.0 clock d e)
+            ∙ vote_stored s l p.0 i voted.0 b h k (w ∙ ap (λ (y : Block). with_voter y i) held);
         row = omega arith;
         who = o;
       }
 
-  pub clock-does : (who : NodeNo) (clock : Epoch) (d : Block) → who.0 < most_nodes → Does s (record { row = record { 0 = 0 }; block = get_or s.blocks 0 d; who = who; clock = clock; count = s.count; voted = s.voted; proposed = s.proposed }) (with_clock s who.0 clock.0)
+  pub clock_does : (who : NodeNo) (clock : Epoch) (d : Block) → who.0 < most_nodes → Does s (record { row = record { 0 = 0 }; block = get_or s.blocks 0 d; who = who; clock = clock; count = s.count; voted = s.voted; proposed = s.proposed }) (with_clock s who.0 clock.0)
   unfolding done with_clock
-  clock-does who clock d h =
+  clock_does who clock d h =
       record {
         makes = ap (λ (x : List Block). put s x s.count (set s.clocks who.0 clock) s.voted.0 s.proposed.0) (set-get_or s.blocks 0 d);
         row = zero-le;
@@ -75,5 +75,5 @@ module _ (s : State) where
       }
 
 -- the same state, otherwise worded
-pub does-as : {s t u : State} {e : Effect} → Does s e t → t ≡ u → Does s e u
-does-as d h = record { makes = d.makes ∙ h; row = d.row; who = d.who }
+pub does_as : {s t u : State} {e : Effect} → Does s e t → t ≡ u → Does s e u
+does_as d h = record { makes = d.makes ∙ h; row = d.row; who = d.who }

@@ -18,24 +18,24 @@ pub data Through : List (Bool × Answer) → ℕ → Move → Type 0 where
   rests : {more : List (Bool × Answer)} {p : ℕ} {m : Move} → m ≡ move_by more p → Through more p m
   takes : {p : ℕ} → Through [] p (record { answer = Answer.Taken; place = record { 0 = p } })
 
-pub row-yes : (b : Bool) (a : Answer) (more : List (Bool × Answer)) → b ≡ true → lowest_of ((b, a) ∷ more) ≡ a
+pub row_yes : (b : Bool) (a : Answer) (more : List (Bool × Answer)) → b ≡ true → lowest_of ((b, a) ∷ more) ≡ a
 unfolding lowest_of
-row-yes b a more h = pick_yes b a (lowest_of more) h
+row_yes b a more h = pick_yes b a (lowest_of more) h
 
-pub row-no : (b : Bool) (a : Answer) (more : List (Bool × Answer)) → b ≡ false → lowest_of ((b, a) ∷ more) ≡ lowest_of more
+pub row_no : (b : Bool) (a : Answer) (more : List (Bool × Answer)) → b ≡ false → lowest_of ((b, a) ∷ more) ≡ lowest_of more
 unfolding lowest_of
-row-no b a more h = pick_no b a (lowest_of more) h
+row_no b a more h = pick_no b a (lowest_of more) h
 
-move-of : Answer → ℕ → Move
+move_of : Answer → ℕ → Move
 unfolding pick taken
-move-of a p = record { answer = a; place = record { 0 = pick (taken a) p 0 } }
+move_of a p = record { answer = a; place = record { 0 = pick (taken a) p 0 } }
 
 pub through : {tests : List (Bool × Answer)} {p : ℕ} {m : Move} → Through tests p m → m ≡ move_by tests p
-unfolding move_by move-of
+unfolding move_by move_of
 through (refuses {b} {a} {more} {p} h t) =
     ap (λ (k : ℕ). record { answer = a; place = record { 0 = k } }) (sym (pick_no (taken a) p 0 t))
-    ∙ sym (ap (λ (x : Answer). move-of x p) (row-yes b a more h))
-through (passes {b} {a} {more} {p} h way) = through way ∙ sym (ap (λ (x : Answer). move-of x p) (row-no b a more h))
+    ∙ sym (ap (λ (x : Answer). move_of x p) (row_yes b a more h))
+through (passes {b} {a} {more} {p} h way) = through way ∙ sym (ap (λ (x : Answer). move_of x p) (row_no b a more h))
 through (rests e) = e
 through takes = refl
 

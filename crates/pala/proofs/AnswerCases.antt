@@ -89,9 +89,9 @@ each_row =
     ∷ answers (minute 0) 7
     ∷ []
 
-rows-hold : Holds 4 each_row
+rows_hold : Holds 4 each_row
 unfolding began shown musts each_row
-rows-hold = refl
+rows_hold = refl
 
 -- what a record answers at a state written by hand, with an out buffer
 abbrev put : State → List ℕ → List ℕ → ℕ
@@ -106,7 +106,7 @@ abbrev new : List ℕ
 new = letter 65
 
 -- "the lowest number that applies": torn or not, with a record of no bytes
-far-rows :
+far_rows :
     (put (state_of 4 0 1 0 0 [] [] true) [] lent ∷ put (state_of 4 0 0 0 0 [] [] true) [] lent ∷ [] ≡ 2 ∷ 1 ∷ [])
     -- 3: "out buffer isn't 96 bytes"
     × (put (state_of 4 0 1 0 0 [] [] false) (clock 1 2) (replicate 95 0) ∷ put (state_of 4 0 1 0 0 [] [] false) (clock 1 2) lent ∷ [] ≡ 3 ∷ 0 ∷ [])
@@ -116,17 +116,17 @@ far-rows :
     × (put (filled 64 64) (hear 1 1 new genesis_name) lent ∷ put (filled 63 63) (hear 1 1 new genesis_name) lent ∷ [] ≡ 14 ∷ 0 ∷ [])
     × (put (filled 64 64) (propose 0 new) lent ∷ put (filled 63 63) (propose 0 new) lent ∷ [] ≡ 14 ∷ 0 ∷ [])
 unfolding number step lent table blank filled message
-far-rows = (refl, refl, refl, refl, refl)
+far_rows = (refl, refl, refl, refl, refl)
 
 -- what a start answers, by n and own number
 abbrev starts : ℕ → ℕ → ℕ
 starts n own = number (start n own).answer
 
 -- "Starting with n of 0 or above 32, or own number not below n, answers 15 and an all-zero state"; "Fresh: local 1, all else 0, no blocks, not torn."
-starts-hold :
+starts_hold :
     (starts 1 0 ∷ starts 4 3 ∷ starts 32 31 ∷ [] ≡ 0 ∷ 0 ∷ 0 ∷ [])
     × (starts 0 0 ∷ starts 33 0 ∷ starts 4 4 ∷ starts 1 1 ∷ [] ≡ 15 ∷ 15 ∷ 15 ∷ 15 ∷ [])
     × ((start 4 3).state ≡ state_of 4 3 1 0 0 [] [] false)
     × ((start 4 4).state ≡ state_of 0 0 0 0 0 [] [] false)
 unfolding start number table blank
-starts-hold = (refl, refl, refl, refl)
+starts_hold = (refl, refl, refl, refl)

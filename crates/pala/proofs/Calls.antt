@@ -21,10 +21,10 @@ use Rattle.pala.specs.Run.{lent, played}
 use Rattle.pala.specs.Shape.{is_blank, well_shaped}
 use Rattle.pala.specs.Step.{Outcome, outcome, room, step_shaped, step, start}
 use Rattle.pala.specs.Steps.{settled}
-use Rattle.pala.proofs.Shapes.{nodes-are, blank-blank, shaped_of}
+use Rattle.pala.proofs.Shapes.{nodes_are, blank-blank, shaped_of}
 use Rattle.pala.proofs.Sized.{Sized, plain-sized}
 use Rattle.pala.proofs.Moves.{Stepped}
-use Rattle.pala.proofs.Keeps.{Proper, step-did, step_keeps}
+use Rattle.pala.proofs.Keeps.{Proper, step_did, step_keeps}
 
 -- ---- a call with and without the test of the shape
 
@@ -37,9 +37,9 @@ module _ (s : State) (r out : List ℕ) where
       (pick_no (not (well_shaped s)) Answer.State (lowest_of (shaped_rows room s r out)) (ap not h))
 
   -- "1 State: the state isn't well shaped", and then "state and out buffer come back the same"
-  pub step-refuses : well_shaped s ≡ false → step s r out ≡ record { answer = Answer.State; state = s; out = out }
+  pub step_refuses : well_shaped s ≡ false → step s r out ≡ record { answer = Answer.State; state = s; out = out }
   unfolding step lowest_of all_rows outcome
-  step-refuses h =
+  step_refuses h =
       ap (λ (a : Answer). outcome a s r out)
       (pick_yes (not (well_shaped s)) Answer.State (lowest_of (shaped_rows room s r out)) (ap not h))
 
@@ -57,34 +57,34 @@ module _ (s : State) (r out other : List ℕ) (e : length out ≡ record_bytes) 
   unfolding step outcome
   same_answer = ap lowest_of same_rows
 
-  pub step-any-out : ((step s r out).state ≡ (step s r other).state) × ((step s r out).answer ≡ (step s r other).answer)
+  pub step_any_out : ((step s r out).state ≡ (step s r other).state) × ((step s r out).answer ≡ (step s r other).answer)
   unfolding step outcome
-  step-any-out = (ap (λ (a : Answer). pick (taken a) (settled (effect s r)) s) same_answer, same_answer)
+  step_any_out = (ap (λ (a : Answer). pick (taken a) (settled (effect s r)) s) same_answer, same_answer)
 
 -- so any buffer of 96 bytes does what the lent one does
 pub any_lent : (s : State) (r out : List ℕ) → length out ≡ record_bytes → (step s r out).state ≡ (step s r lent).state
 unfolding lent
-any_lent s r out e = (step-any-out s r out lent e (length-replicate {A = ℕ} record_bytes 0)).0
+any_lent s r out e = (step_any_out s r out lent e (length-replicate {A = ℕ} record_bytes 0)).0
 
 -- ---- the all-zero state
 
-pub zero-unshaped : well_shaped all_zero ≡ false
+pub zero_unshaped : well_shaped all_zero ≡ false
 unfolding well_shaped all_zero
-zero-unshaped = refl
+zero_unshaped = refl
 
 -- "an all-zero state, which every later call refuses with 1"
-pub zero-refused : (r out : List ℕ) → step all_zero r out ≡ record { answer = Answer.State; state = all_zero; out = out }
-zero-refused r out = step-refuses all_zero r out zero-unshaped
+pub zero_refused : (r out : List ℕ) → step all_zero r out ≡ record { answer = Answer.State; state = all_zero; out = out }
+zero_refused r out = step_refuses all_zero r out zero_unshaped
 
 -- "1 for a badly shaped state", "nothing written"
-pub list-refuses : (s : State) (buffer : List ℕ) → well_shaped s ≡ false → final_list s buffer ≡ record { answer = Answer.State; count = 0; list = buffer }
+pub list_refuses : (s : State) (buffer : List ℕ) → well_shaped s ≡ false → final_list s buffer ≡ record { answer = Answer.State; count = 0; list = buffer }
 unfolding final_list list_answer lowest_of listed
-list-refuses s buffer h =
+list_refuses s buffer h =
     ap (λ (a : Answer). listed a s buffer)
     (pick_yes (not (well_shaped s)) Answer.State _ (ap not h))
 
 pub zero-list : (buffer : List ℕ) → final_list all_zero buffer ≡ record { answer = Answer.State; count = 0; list = buffer }
-zero-list buffer = list-refuses all_zero buffer zero-unshaped
+zero-list buffer = list_refuses all_zero buffer zero_unshaped
 
 -- ---- a start
 
@@ -104,7 +104,7 @@ start-sized n own = pick-case Sized (nodes n own) (fresh n own) all_zero (λ _. 
 pub fresh-shaped : (n own : ℕ) → nodes n own ≡ true → well_shaped (fresh n own) ≡ true
 unfolding fresh clock_of
 fresh-shaped n own h =
-    shaped_of (fresh n own) (nodes-are n own h) (omega arith) (omega arith) (omega arith)
+    shaped_of (fresh n own) (nodes_are n own h) (omega arith) (omega arith) (omega arith)
     (λ i l m. ap (λ (x : Epoch). x.0) (get_or-replicate {A = Epoch} most_nodes i (record { 0 = 0 }) (record { 0 = 0 }) m))
     (λ p l m. absurd (omega arith))
     (λ p u l. ap is_blank (get_or-replicate (suc capacity) p blank blank (omega arith)) ∙ blank-blank)
@@ -116,29 +116,29 @@ start-shaped n own h = ap well_shaped (pick_yes (nodes n own) (fresh n own) all_
 -- ---- a run
 
 -- a call refuses and leaves the state as it was, or takes the record
-pub step-stepped : (s : State) (r out : List ℕ) → length s.blocks ≡ suc capacity → well_shaped s ≡ true → Stepped room s r out (step s r out)
-step-stepped s r out places h = subst (Stepped room s r out) (sym (step_is s r out h)) (step-did s places h r out)
+pub step_stepped : (s : State) (r out : List ℕ) → length s.blocks ≡ suc capacity → well_shaped s ≡ true → Stepped room s r out (step s r out)
+step_stepped s r out places h = subst (Stepped room s r out) (sym (step_is s r out h)) (step_did s places h r out)
 
-pub call-did : (s : State) (r out : List ℕ) → Proper s → Stepped room s r out (step s r out)
-call-did s r out k = step-stepped s r out k.sized.blocks k.shaped
+pub call_did : (s : State) (r out : List ℕ) → Proper s → Stepped room s r out (step s r out)
+call_did s r out k = step_stepped s r out k.sized.blocks k.shaped
 
 -- .. and keeps what a call needs
-pub call-keeps : (s : State) (r out : List ℕ) → Proper s → Proper (step s r out).state
-call-keeps s r out k = subst (λ (o : Outcome). Proper o.state) (sym (step_is s r out k.shaped)) (step_keeps s r out k)
+pub call_keeps : (s : State) (r out : List ℕ) → Proper s → Proper (step s r out).state
+call_keeps s r out k = subst (λ (o : Outcome). Proper o.state) (sym (step_is s r out k.shaped)) (step_keeps s r out k)
 
-pub played-keeps : (s : State) (records : List (List ℕ)) → Proper s → Proper (played s records)
+pub played_keeps : (s : State) (records : List (List ℕ)) → Proper s → Proper (played s records)
 unfolding played
-played-keeps s [] k = k
-played-keeps s (r ∷ more) k = played-keeps (step s r lent).state more (call-keeps s r lent k)
+played_keeps s [] k = k
+played_keeps s (r ∷ more) k = played_keeps (step s r lent).state more (call_keeps s r lent k)
 
 -- from a start, after any records
 pub start-played : (n own : ℕ) (records : List (List ℕ)) → nodes n own ≡ true → Proper (played (start n own).state records)
 start-played n own records h =
-    played-keeps (start n own).state records (record { sized = start-sized n own; shaped = start-shaped n own h })
+    played_keeps (start n own).state records (record { sized = start-sized n own; shaped = start-shaped n own h })
 
 -- a start that was refused stays all zero
 pub zero-played : (records : List (List ℕ)) → played all_zero records ≡ all_zero
 unfolding played
 zero-played [] = refl
 zero-played (r ∷ more) =
-    ap (λ (o : Outcome). played o.state more) (zero-refused r lent) ∙ zero-played more
+    ap (λ (o : Outcome). played o.state more) (zero_refused r lent) ∙ zero-played more

@@ -4,6 +4,6 @@ use Rattle.pala.specs.Cases.{Holds, session_input, session_text, p_table, began,
 use Rattle.pala.specs.Lines.{replay}
 
 -- `replay` prints the session's nine lines, and each P case shows what 01 says
-pub cases-hold : (replay session_input ≡ session_text) × Holds 4 p_table
+pub cases_hold : (replay session_input ≡ session_text) × Holds 4 p_table
 unfolding replay session_input session_text began shown musts p_table
-cases-hold = (refl, refl)
+cases_hold = (refl, refl)

@@ -11,24 +11,24 @@ use Rattle.table.proofs.Laws.{same_test}
 use Rattle.pala.specs.Counts.{quorum}
 
 -- "the least q with 3q at least 2n"
-pub quorum-enough : (n : ℕ) → 2 * n ≤ 3 * quorum n
+pub quorum_enough : (n : ℕ) → 2 * n ≤ 3 * quorum n
 unfolding quorum
-quorum-enough n = omega arith
+quorum_enough n = omega arith
 
-pub quorum-least : (n q : ℕ) → 2 * n ≤ 3 * q → quorum n ≤ q
+pub quorum_least : (n q : ℕ) → 2 * n ≤ 3 * q → quorum n ≤ q
 unfolding quorum
-quorum-least n q h = omega arith
+quorum_least n q h = omega arith
 
 -- the site card: "three times the votes, at least twice the nodes"
 abbrev pub card : ℕ → ℕ → Bool
 card votes nodes = leb (2 * nodes) (3 * votes)
 
 -- the card's test and 01's, "(2n + 2) / 3 rounded down", agree for every count and every n
-pub card-agrees : (votes n : ℕ) → card votes n ≡ leb (quorum n) votes
-card-agrees votes n =
+pub card_agrees : (votes n : ℕ) → card votes n ≡ leb (quorum n) votes
+card_agrees votes n =
     same_test (card votes n) (leb (quorum n) votes)
-    (λ h. le-leb (quorum n) votes (quorum-least n votes (leb-true (2 * n) (3 * votes) h)))
-    (λ h. le-leb (2 * n) (3 * votes) (omega (arith, leb-true (quorum n) votes h, quorum-enough n)))
+    (λ h. le-leb (quorum n) votes (quorum_least n votes (leb-true (2 * n) (3 * votes) h)))
+    (λ h. le-leb (2 * n) (3 * votes) (omega (arith, leb-true (quorum n) votes h, quorum_enough n)))
 
 -- "n=1:1, 2:2, 3:2, 4:3, 5:4, 6:4, 7:5, 31:21, 32:22"
 abbrev listed : List ℕ
@@ -42,6 +42,6 @@ unfolding quorum
 quorums = refl
 
 -- the same table from the card: the lowest count, of n votes at most, that passes its test
-pub card-quorums : map (λ n. lowest (n + 1) (λ votes. card votes n)) listed ≡ listed_quorums
+pub card_quorums : map (λ n. lowest (n + 1) (λ votes. card votes n)) listed ≡ listed_quorums
 unfolding lowest
-card-quorums = refl
+card_quorums = refl

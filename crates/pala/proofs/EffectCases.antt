@@ -33,24 +33,24 @@ took s out = record { answer = Answer.Taken; state = s; out = out }
 
 -- "Kind 1 adds the block with no voters. Kind 2 adds a voter. Kind 3 keeps the clock in place of the sender's older one."
 -- "Every other answer leaves the out buffer's bytes unchanged."
-heard-does :
+heard_does :
     (step (node 1 [] []) (hear' 3 3 C A) buffer ≡ took (node 2 (on_a C 3 ∷ []) []) buffer)
     × (step (node 2 (block B 2 1 0 ∷ []) []) (vote 0 B) buffer ≡ took (node 2 (block B 2 1 1 ∷ []) []) buffer)
     × (step (node 1 [] (record { 0 = 3 } ∷ record { 0 = 4 } ∷ [])) (clock 1 9) buffer
     ≡ took (node 1 [] (record { 0 = 3 } ∷ record { 0 = 9 } ∷ [])) buffer)
 unfolding step message table blank
-heard-does = (refl, refl, refl)
+heard_does = (refl, refl, refl)
 
 -- "Kind 4 adds a block of the local epoch on the freshest block, with no voters, and notes the local epoch as proposed in."
 -- It sends "kind 1, 2 or 3 with own number as sender"
-propose-does :
+propose_does :
     step (node 1 [] []) (message propose_now 2 0 B no_name one_payload) buffer
     ≡ took (noted (node 2 (on_a B 2 ∷ []) []) 0 2) (hear' 2 2 B A)
 unfolding step message table blank
-propose-does = refl
+propose_does = refl
 
 -- "Kind 5 picks the lowest place that may be voted for, counts own vote there and notes the local epoch as voted in."
-cast-does :
+cast_does :
     step (node 3 (block B 2 1 2 ∷ block C 2 1 0 ∷ []) []) (cast_by 2) buffer
     ≡ took
     (record {
@@ -69,11 +69,11 @@ cast-does :
     })
     (vote 2 B)
 unfolding step message table blank
-cast-does = refl
+cast_does = refl
 
 -- "Kind 6 keeps local + 1 as own clock."
-minute-does :
+minute_does :
     step (node 1 [] []) (minute 2) buffer
     ≡ took (node 1 [] (record { 0 = 0 } ∷ record { 0 = 0 } ∷ record { 0 = 3 } ∷ [])) (clock 2 3)
 unfolding step message table blank
-minute-does = refl
+minute_does = refl

@@ -83,38 +83,38 @@ early_final =
     ∷ play (votes C) ((the_local, 4 ∷ []) ∷ (the_bar, 3 ∷ []) ∷ (the_finals, A) ∷ (the_torn, 0 ∷ []) ∷ [])
     ∷ []
 
-torn-holds : Holds 4 torn
+torn_holds : Holds 4 torn
 unfolding began shown musts session torn
-torn-holds = refl
+torn_holds = refl
 
-ancestors-hold : Holds 4 ancestor_lacks_votes
+ancestors_hold : Holds 4 ancestor_lacks_votes
 unfolding began shown musts ancestor_lacks_votes
-ancestors-hold = refl
+ancestors_hold = refl
 
-bar-holds : Holds 4 bar_is_fixed
+bar_holds : Holds 4 bar_is_fixed
 unfolding began shown musts session bar_is_fixed
-bar-holds = refl
+bar_holds = refl
 
 kept-holds : Holds 4 kept_stays
 unfolding began shown musts session kept_stays
 kept-holds = refl
 
-other-epoch-holds : Holds 4 other_epoch_stored
+other_epoch-holds : Holds 4 other_epoch_stored
 unfolding began shown musts session other_epoch_stored
-other-epoch-holds = refl
+other_epoch-holds = refl
 
-half-holds : Holds 5 more_than_half
+half_holds : Holds 5 more_than_half
 unfolding began shown musts more_than_half
-half-holds = refl
+half_holds = refl
 
-stuck-hall-holds : Holds 4 stuck_hall
+stuck_hall-holds : Holds 4 stuck_hall
 unfolding began shown musts session stuck_hall
-stuck-hall-holds = refl
+stuck_hall-holds = refl
 
-late-holds : Holds 4 late_final
+late_holds : Holds 4 late_final
 unfolding began shown musts early late_final
-late-holds = refl
+late_holds = refl
 
-early-holds : Holds 4 early_final
+early_holds : Holds 4 early_final
 unfolding began shown musts early early_final
-early-holds = refl
+early_holds = refl

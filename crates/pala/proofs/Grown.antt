@@ -29,8 +29,8 @@ length-laid l p b h = ap length (laid-set l p b h) ∙ length-set l p b
 pub laid_same : (l : List Block) (p : ℕ) (b d : Block) → p < length l → get_or (laid l p b) p d ≡ b
 laid_same l p b d h = ap (λ (x : List Block). get_or x p d) (laid-set l p b h) ∙ get_or-set_same l p b d h
 
-pub laid-other : (l : List Block) (p q : ℕ) (b d : Block) → p < length l → q ≢ p → get_or (laid l p b) q d ≡ get_or l q d
-laid-other l p q b d h e = ap (λ (x : List Block). get_or x q d) (laid-set l p b h) ∙ get_or-set_other l p q b d e
+pub laid_other : (l : List Block) (p q : ℕ) (b d : Block) → p < length l → q ≢ p → get_or (laid l p b) q d ≡ get_or l q d
+laid_other l p q b d h e = ap (λ (x : List Block). get_or x q d) (laid-set l p b h) ∙ get_or-set_other l p q b d e
 
 -- ---- the table of a state
 
@@ -101,16 +101,16 @@ pub record Grown (t u : List Block) : Type 0 where
   pub parent : (p : ℕ) → p < size t → (at u p).parent.0 ≡ (at t p).parent.0
   pub voters : (p i : ℕ) → p < size t → has_voter (at t p) i ≡ true → has_voter (at u p) i ≡ true
 
-pub grown-epoch : {t u : List Block} → Grown t u → (p : ℕ) → p < size t → epoch_at u p ≡ epoch_at t p
+pub grown_epoch : {t u : List Block} → Grown t u → (p : ℕ) → p < size t → epoch_at u p ≡ epoch_at t p
 unfolding epoch_at
-grown-epoch g p h = g.epoch p h
+grown_epoch g p h = g.epoch p h
 
-pub grown-parent : {t u : List Block} → Grown t u → (p : ℕ) → p < size t → parent_of u p ≡ parent_of t p
+pub grown_parent : {t u : List Block} → Grown t u → (p : ℕ) → p < size t → parent_of u p ≡ parent_of t p
 unfolding parent_of
-grown-parent {t} {u} g p h = lower-same (λ a. (at u a).parent.0) (λ a. (at t a).parent.0) p (g.parent p h)
+grown_parent {t} {u} g p h = lower-same (λ a. (at u a).parent.0) (λ a. (at t a).parent.0) p (g.parent p h)
 
-pub grown-same : (t : List Block) → Grown t t
-grown-same t =
+pub grown_same : (t : List Block) → Grown t t
+grown_same t =
     record {
       longer = omega arith;
       name = λ p h. refl;
@@ -119,21 +119,21 @@ grown-same t =
       voters = λ p i h v. v;
     }
 
-pub grown-then : {t u v : List Block} → Grown t u → Grown u v → Grown t v
-grown-then {t} {u} {v} f g =
+pub grown_then : {t u v : List Block} → Grown t u → Grown u v → Grown t v
+grown_then {t} {u} {v} f g =
     record {
       longer = omega (arith, f.longer, g.longer);
-      name = λ p h. g.name p (in-u p h) ∙ f.name p h;
-      epoch = λ p h. g.epoch p (in-u p h) ∙ f.epoch p h;
-      parent = λ p h. g.parent p (in-u p h) ∙ f.parent p h;
-      voters = λ p i h w. g.voters p i (in-u p h) (f.voters p i h w);
+      name = λ p h. g.name p (in_u p h) ∙ f.name p h;
+      epoch = λ p h. g.epoch p (in_u p h) ∙ f.epoch p h;
+      parent = λ p h. g.parent p (in_u p h) ∙ f.parent p h;
+      voters = λ p i h w. g.voters p i (in_u p h) (f.voters p i h w);
     }
   where
-    in-u : (p : ℕ) → p < size t → p < size u
-    in-u p h = omega (arith, f.longer)
+    in_u : (p : ℕ) → p < size t → p < size u
+    in_u p h = omega (arith, f.longer)
 
-pub grown-append : (t : List Block) (b : Block) → Grown t (t ++ (b ∷ []))
-grown-append t b =
+pub grown_append : (t : List Block) (b : Block) → Grown t (t ++ (b ∷ []))
+grown_append t b =
     record {
       longer = omega (arith, size-append t b);
       name = λ p h. ap (λ (x : Block). x.name) (at-append t b p h);
@@ -143,20 +143,20 @@ grown-append t b =
     }
 
 -- one voter more: it is there, those that were there still are, and of the others nothing changed
-pub voter-in : (b : Block) (i : ℕ) → i < length b.voters → has_voter (with_voter b i) i ≡ true
+pub voter_in : (b : Block) (i : ℕ) → i < length b.voters → has_voter (with_voter b i) i ≡ true
 unfolding with_voter has_voter
-voter-in b i h = get_or-set_same b.voters i true false h
+voter_in b i h = get_or-set_same b.voters i true false h
 
-pub voter-set : (l : List Bool) (i j : ℕ) → get_or l j false ≡ true → get_or (set l i true) j false ≡ true
-voter-set [] i j w = w
-voter-set (x ∷ l) zero zero w = refl
-voter-set (x ∷ l) zero (suc j) w = w
-voter-set (x ∷ l) (suc i) zero w = w
-voter-set (x ∷ l) (suc i) (suc j) w = voter-set l i j w
+pub voter_set : (l : List Bool) (i j : ℕ) → get_or l j false ≡ true → get_or (set l i true) j false ≡ true
+voter_set [] i j w = w
+voter_set (x ∷ l) zero zero w = refl
+voter_set (x ∷ l) zero (suc j) w = w
+voter_set (x ∷ l) (suc i) zero w = w
+voter_set (x ∷ l) (suc i) (suc j) w = voter_set l i j w
 
-pub voter-was : (b : Block) (i j : ℕ) → j ≢ i → has_voter (with_voter b i) j ≡ has_voter b j
+pub voter_was : (b : Block) (i j : ℕ) → j ≢ i → has_voter (with_voter b i) j ≡ has_voter b j
 unfolding with_voter has_voter
-voter-was b i j d = get_or-set_other b.voters i j true false d
+voter_was b i j d = get_or-set_other b.voters i j true false d
 
 -- a row after a vote: the voted one with a voter more, or the row as it was
 pub at-vote : (P : Block → Type 0) (t : List Block) (p i q : ℕ) → p < size t
@@ -169,21 +169,21 @@ at-vote P t p i q l same other h =
     ]
 
 -- a part of the rows that a voter more leaves alone
-pub part-vote : {A : Type 0} (f : Block → A) (t : List Block) (p i : ℕ) → p < size t → f (with_voter (at t p) i) ≡ f (at t p)
+pub part_vote : {A : Type 0} (f : Block → A) (t : List Block) (p i : ℕ) → p < size t → f (with_voter (at t p) i) ≡ f (at t p)
     → (q : ℕ) → q < size t → f (at (set t p (with_voter (at t p) i)) q) ≡ f (at t q)
-part-vote f t p i l e q h =
+part_vote f t p i l e q h =
     at-vote (λ (x : Block). f x ≡ f (at t q)) t p i q l (λ d. e ∙ ap (λ (a : ℕ). f (at t a)) (sym d)) (λ d. refl) h
 
-pub grown-vote : (t : List Block) (p i : ℕ) → p < size t → Grown t (set t p (with_voter (at t p) i))
+pub grown_vote : (t : List Block) (p i : ℕ) → p < size t → Grown t (set t p (with_voter (at t p) i))
 unfolding with_voter has_voter
-grown-vote t p i l =
+grown_vote t p i l =
     record {
       longer = omega (arith, length-set t p (with_voter (at t p) i));
-      name = part-vote (λ (x : Block). x.name) t p i l refl;
-      epoch = part-vote (λ (x : Block). x.epoch.0) t p i l refl;
-      parent = part-vote (λ (x : Block). x.parent.0) t p i l refl;
+      name = part_vote (λ (x : Block). x.name) t p i l refl;
+      epoch = part_vote (λ (x : Block). x.epoch.0) t p i l refl;
+      parent = part_vote (λ (x : Block). x.parent.0) t p i l refl;
       voters =
           λ q j h w.
           at-vote (λ (x : Block). has_voter x j ≡ true) t p i q l
-          (λ d. voter-set (at t p).voters i j (ap (λ (a : ℕ). has_voter (at t a) j) (sym d) ∙ w)) (λ d. w) h;
+          (λ d. voter_set (at t p).voters i j (ap (λ (a : ℕ). has_voter (at t a) j) (sym d) ∙ w)) (λ d. w) h;
     }

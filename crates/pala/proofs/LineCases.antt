@@ -23,18 +23,18 @@ abbrev ended : ℕ → List ℕ
 ended lines = 101 ∷ 110 ∷ 100 ∷ 32 ∷ (48 + lines) ∷ 10 ∷ []
 
 -- "If the start is refused or under two bytes come: only `setup 15`."
-setup-holds :
+setup_holds :
     map replay ([] ∷ (4 ∷ []) ∷ (0 ∷ 0 ∷ []) ∷ (33 ∷ 0 ∷ []) ∷ (4 ∷ 4 ∷ clock 1 2) ∷ []) ≡ setup15 ∷ setup15 ∷ setup15 ∷ setup15 ∷ setup15 ∷ []
 unfolding replay message
-setup-holds = refl
+setup_holds = refl
 
 -- "Last, `end` and the number of lines."
-none-holds : replay (4 ∷ 0 ∷ []) ≡ ended 0
+none_holds : replay (4 ∷ 0 ∷ []) ≡ ended 0
 unfolding replay
-none-holds = refl
+none_holds = refl
 
 -- "A short last record answers 3, .. and gets a line like any other."
-short-holds :
+short_holds :
     replay (4 ∷ 0 ∷ hear 1 1 A genesis_name ++ clock 1 9 ++ (5 ∷ [])) ≡ said 1 0 1 0 0 ++ said 2 0 1 0 0 ++ said 3 3 1 0 0 ++ ended 3
 unfolding replay message
-short-holds = refl
+short_holds = refl

@@ -11,31 +11,31 @@ use borrow.Author.Tests.{ltb-true, leb-true, eqb-true, eqb-false, not-true}
 use Rattle.table.specs.declared.Block.{Block}
 use Rattle.table.specs.Bytes.{same}
 use Rattle.table.specs.Rows.{size, at, find}
-use Rattle.table.proofs.Laws.{not-both, lowest-hit, lowest-below, highest-in, same_refl, same_true}
+use Rattle.table.proofs.Laws.{not_both, lowest_hit, lowest_below, highest_in, same_refl, same_true}
 use Rattle.pala.specs.Rules.{epoch_at, parent_of, firm, freshest, votable, freshest_normal, candidate}
 use Rattle.pala.proofs.Tests.{and_l, and_r}
-use Rattle.pala.proofs.Falls.{lower-is, lower-zero, lower-below, lower-le}
+use Rattle.pala.proofs.Falls.{lower-is, lower-zero, lower_below, lower-le}
 
 -- ---- a name's place
 
 pub find-named : (t : List Block) (name : List ℕ) → find t name < size t → (at t (find t name)).name ≡ name
 unfolding find
 find-named t name h =
-    same_true (at t (find t name)).name name (lowest-hit (size t) (λ p. same (at t p).name name) h)
+    same_true (at t (find t name)).name name (lowest_hit (size t) (λ p. same (at t p).name name) h)
 
 -- a name with no place in the table is no row's
-pub find-misses : (t : List Block) (name : List ℕ) → size t ≤ find t name → (p : ℕ) → p < size t → (at t p).name ≢ name
+pub find_misses : (t : List Block) (name : List ℕ) → size t ≤ find t name → (p : ℕ) → p < size t → (at t p).name ≢ name
 unfolding find
-find-misses t name h p l e =
-    let other : same (at t p).name name ≡ false = lowest-below (size t) (λ q. same (at t q).name name) p (omega arith) in
-    not-both (ap (λ (x : List ℕ). same x name) e ∙ same_refl name) other
+find_misses t name h p l e =
+    let other : same (at t p).name name ≡ false = lowest_below (size t) (λ q. same (at t q).name name) p (omega arith) in
+    not_both (ap (λ (x : List ℕ). same x name) e ∙ same_refl name) other
 
 -- ---- a parent's place: "places fall"
 
 module _ (t : List Block) where
-  pub parent-below : (p : ℕ) → 0 < p → parent_of t p < p
+  pub parent_below : (p : ℕ) → 0 < p → parent_of t p < p
   unfolding parent_of
-  parent-below = lower-below (λ a. (at t a).parent.0)
+  parent_below = lower_below (λ a. (at t a).parent.0)
 
   -- the genesis is its own
   pub parent-zero : parent_of t 0 ≡ 0
@@ -53,17 +53,17 @@ module _ (t : List Block) where
 
 -- ---- the freshest block and the candidate are rows
 
-pub freshest-in : (n : ℕ) (t : List Block) → 0 < size t → freshest n t < size t
+pub freshest_in : (n : ℕ) (t : List Block) → 0 < size t → freshest n t < size t
 unfolding freshest
-freshest-in n t = highest-in (size t) _ _
+freshest_in n t = highest_in (size t) _ _
 
-normal-in : (n : ℕ) (t : List Block) → 0 < size t → freshest_normal n t < size t
+normal_in : (n : ℕ) (t : List Block) → 0 < size t → freshest_normal n t < size t
 unfolding freshest_normal
-normal-in n t = highest-in (size t) _ _
+normal_in n t = highest_in (size t) _ _
 
-pub candidate-in : (n : ℕ) (t : List Block) → 0 < size t → candidate n t < size t
+pub candidate_in : (n : ℕ) (t : List Block) → 0 < size t → candidate n t < size t
 unfolding candidate
-candidate-in n t h = omega (arith, normal-in n t h, parent-lower t (freshest_normal n t))
+candidate_in n t h = omega (arith, normal_in n t h, parent-lower t (freshest_normal n t))
 
 -- ---- "A block may be voted for when ..", part by part
 
@@ -74,9 +74,9 @@ pub record Votable (n : ℕ) (t : List Block) (local bar voted p : ℕ) : Type 0
   pub fresher : bar ≤ epoch_at t (parent_of t p)
   pub new : voted ≢ local
 
-pub votable-parts : (n : ℕ) (t : List Block) (local bar voted p : ℕ) → votable n t local bar voted p ≡ true → Votable n t local bar voted p
+pub votable_parts : (n : ℕ) (t : List Block) (local bar voted p : ℕ) → votable n t local bar voted p ≡ true → Votable n t local bar voted p
 unfolding votable
-votable-parts n t local bar voted p h =
+votable_parts n t local bar voted p h =
     let a : ltb 0 p ≡ true = search (and_l, and_r) in
     let b : eqb (epoch_at t p) local ≡ true = search (and_l, and_r) in
     let c : firm n t (parent_of t p) ≡ true = search (and_l, and_r) in

@@ -11,13 +11,13 @@ use Rattle.pala.specs.Effects.{effect}
 use Rattle.pala.specs.Lists.{final_names}
 use Rattle.pala.specs.Shape.{well_shaped}
 use Rattle.pala.specs.Step.{Outcome, step, room}
-use Rattle.pala.proofs.Grown.{Grown, grown-same, rows_settled}
+use Rattle.pala.proofs.Grown.{Grown, grown_same, rows_settled}
 use Rattle.pala.proofs.Shapes.{shaped-kept}
 use Rattle.pala.proofs.Moves.{Stepped, refused, took}
 use Rattle.pala.proofs.Keeps.{size-shaped, did_grows, step-shaped, step-places}
-use Rattle.pala.proofs.Calls.{step_is, step-stepped}
-use Rattle.pala.proofs.Finals.{names_to, finals-are}
-use Rattle.pala.proofs.Demand.Onward.{grown-names}
+use Rattle.pala.proofs.Calls.{step_is, step_stepped}
+use Rattle.pala.proofs.Finals.{names_to, finals_are}
+use Rattle.pala.proofs.Demand.Onward.{grown_names}
 
 -- a state to go on from: its 65 rows and its shape
 pub record Playable (s : State) : Type 0 where
@@ -26,24 +26,24 @@ pub record Playable (s : State) : Type 0 where
 
 module _ (s : State) (r out : List ℕ) (k : Playable s) where
   -- the next state is one to go on from
-  pub step-playable : Playable (step s r out).state
-  step-playable =
+  pub step_playable : Playable (step s r out).state
+  step_playable =
       subst (λ (o : Outcome). Playable o.state) (sym (step_is s r out k.shaped))
       (record { places = step-places s r out k.places k.shaped; shaped = step-shaped s r out k.places k.shaped })
 
   -- the table only grows
-  step-grows : Grown (rows s) (rows (step s r out).state)
-  step-grows = go (step-stepped s r out k.places k.shaped)
+  step_grows : Grown (rows s) (rows (step s r out).state)
+  step_grows = go (step_stepped s r out k.places k.shaped)
     where
       go : Stepped room s r out (step s r out) → Grown (rows s) (rows (step s r out).state)
-      go (refused a e) = subst (λ (x : State). Grown (rows s) (rows x)) (sym e) (grown-same (rows s))
+      go (refused a e) = subst (λ (x : State). Grown (rows s) (rows x)) (sym e) (grown_same (rows s))
       go (took a p d e) = subst (Grown (rows s)) (sym (ap rows e ∙ rows_settled (effect s r))) (did_grows s k.places k.shaped d)
 
   -- while the kept place stays, so do the final names
-  pub names-stay : (step s r out).state.kept.0 ≡ s.kept.0 → final_names (step s r out).state ≡ final_names s
-  names-stay e =
+  pub names_stay : (step s r out).state.kept.0 ≡ s.kept.0 → final_names (step s r out).state ≡ final_names s
+  names_stay e =
       let inside : s.kept.0 < size (rows s) = omega (arith, shaped-kept s k.shaped, size-shaped s k.places k.shaped) in
-      finals-are (step s r out).state
+      finals_are (step s r out).state
       ∙ ap (names_to (rows (step s r out).state)) e
-      ∙ grown-names step-grows s.kept.0 inside
-      ∙ sym (finals-are s)
+      ∙ grown_names step_grows s.kept.0 inside
+      ∙ sym (finals_are s)

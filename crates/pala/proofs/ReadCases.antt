@@ -22,13 +22,13 @@ sevens k = replicate k 7
 
 -- "names from the first block after genesis to the kept final block, 32 bytes each, into a lent buffer; the rest of it unchanged; the
 -- count is returned. 1 for a badly shaped state, 3 for too little room, nothing written. A torn state can be read."
-lists-hold :
+lists_hold :
     (final_list (final_b 0) (sevens 70) ≡ record { answer = Answer.Taken; count = 2; list = A ++ B ++ sevens 6 })
     × (final_list (final_b 0) (sevens 64) ≡ record { answer = Answer.Taken; count = 2; list = A ++ B })
     × (final_list (final_b 0) (sevens 63) ≡ record { answer = Answer.Length; count = 0; list = sevens 63 })
     × (final_list (final_b 4) (sevens 63) ≡ record { answer = Answer.State; count = 0; list = sevens 63 })
 unfolding final_list table blank
-lists-hold = (refl, refl, refl, refl)
+lists_hold = (refl, refl, refl, refl)
 
 -- what two lists show: relation, index, what reaches C, and the tail
 record Pair : Type 0 where
@@ -53,7 +53,7 @@ near_b = replicate 31 0x0B ++ (0x0C ∷ [])
 
 -- "relation 0 equal, 1 first longer and beginning with the second, 2 the reverse, 3 fork, with the index of the first name that
 -- differs (0 in the other relations), 4 a length that isn't a multiple of 32 (index 0)"; "relation x 2^60 + index"
-relations-hold :
+relations_hold :
     (pair (A ++ B) (A ++ B) ≡ record { number = 0; index = 0; code = 0; rest = [] })
     × (pair [] [] ≡ record { number = 0; index = 0; code = 0; rest = [] })
     × (pair (A ++ B ++ C) A ≡ record { number = 1; index = 0; code = 1152921504606846976; rest = B ++ C })
@@ -63,21 +63,21 @@ relations-hold :
     × (pair (A ++ (0 ∷ [])) A ≡ record { number = 4; index = 0; code = 4611686018427387904; rest = [] })
     × (pair A (drop 1 B) ≡ record { number = 4; index = 0; code = 4611686018427387904; rest = [] })
 unfolding pair
-relations-hold = (refl, refl, refl, refl, refl, refl, refl, refl)
+relations_hold = (refl, refl, refl, refl, refl, refl, refl, refl)
 
 -- "The answer is refusal x 65,536 + count of final names": the session, where refused records "are passed over", and nothing played
-runs-hold :
+runs_hold :
     (run 4 0 (joined (vote 3 C ∷ session ++ (vote 3 C ∷ []))) (sevens 2050) ≡ record { code = 1; list = A ++ sevens 2018 })
     × (run 4 0 [] (sevens 2048) ≡ record { code = 0; list = sevens 2048 })
 unfolding run joined session message
-runs-hold = (refl, refl)
+runs_hold = (refl, refl)
 
 -- "3: slice not a multiple of 96, or list buffer under 2,048 bytes; 15 as above; lowest first; then count 0 and nothing written"
-runs-refused :
+runs_refused :
     (run 4 0 (drop 1 (joined session)) (sevens 2048) ≡ record { code = 196608; list = sevens 2048 })
     × (run 4 0 (joined session) (sevens 2047) ≡ record { code = 196608; list = sevens 2047 })
     × (run 33 0 (joined session) (sevens 2048) ≡ record { code = 983040; list = sevens 2048 })
     × (run 4 4 [] (sevens 2048) ≡ record { code = 983040; list = sevens 2048 })
     × (run 0 0 (0 ∷ []) (sevens 2047) ≡ record { code = 196608; list = sevens 2047 })
 unfolding run joined session
-runs-refused = (refl, refl, refl, refl, refl)
+runs_refused = (refl, refl, refl, refl, refl)

@@ -41,20 +41,20 @@ abbrev kinds : List (List ℕ)
 kinds = map kind (counting 6 1)
 
 -- "kind isn't 1 to 6"; kinds 1 to 3 are heard
-kinds-known :
+kinds_known :
     (map known_kind (kind 0 ∷ kinds ++ (kind 7 ∷ kind 255 ∷ [])) ≡ false ∷ replicate 6 true ++ (false ∷ false ∷ []))
     × (map heard kinds ≡ replicate 3 true ++ replicate 3 false)
 unfolding counting known_kind heard
-kinds-known = (refl, refl)
+kinds_known = (refl, refl)
 
 -- "fields used": 1 all, 2 name, 3 epoch, 4 name and payload, 5 and 6 none
-fields-used :
+fields_used :
     (map uses_epoch kinds ≡ true ∷ false ∷ true ∷ false ∷ false ∷ false ∷ [])
     × (map uses_name kinds ≡ true ∷ true ∷ false ∷ true ∷ false ∷ false ∷ [])
     × (map uses_parent kinds ≡ true ∷ false ∷ false ∷ false ∷ false ∷ false ∷ [])
     × (map uses_payload kinds ≡ true ∷ false ∷ false ∷ true ∷ false ∷ false ∷ [])
 unfolding counting uses_epoch uses_name uses_parent uses_payload
-fields-used = (refl, refl, refl, refl)
+fields_used = (refl, refl, refl, refl)
 
 -- may a record of the kind have another byte than 0 at bytes 2 and 3, and at the first and the last byte of the epoch, the name, the
 -- parent name and the payload
@@ -65,7 +65,7 @@ abbrev bytes_of : Bool → Bool → Bool → Bool → List Bool
 bytes_of epoch name parent payload = false ∷ false ∷ epoch ∷ epoch ∷ name ∷ name ∷ parent ∷ parent ∷ payload ∷ payload ∷ []
 
 -- "Fields a kind doesn't use are zero."
-unused-zero :
+unused_zero_lem :
     (allowed 1 ≡ bytes_of true true true true)
     × (allowed 2 ≡ bytes_of false true false false)
     × (allowed 3 ≡ bytes_of true false false false)
@@ -73,4 +73,4 @@ unused-zero :
     × (allowed 5 ≡ bytes_of false false false false)
     × (allowed 6 ≡ bytes_of false false false false)
 unfolding unused_zero
-unused-zero = (refl, refl, refl, refl, refl, refl)
+unused_zero_lem = (refl, refl, refl, refl, refl, refl)

@@ -40,12 +40,12 @@ descent = (refl, refl, refl)
 abbrev agree : ℕ → ℕ → ℕ → ℕ → ℕ
 agree a b c d = agreed 4 (clocks_from (record { 0 = a } ∷ record { 0 = b } ∷ record { 0 = c } ∷ record { 0 = d } ∷ []))
 
-clocks-agree :
+clocks_agree :
     (agree 5 5 5 0 ∷ agree 9 5 5 5 ∷ agree 5 5 5 5 ∷ [] ≡ 5 ∷ 5 ∷ 5 ∷ [])
     × (agree 0 8 9 8 ∷ agree 5 5 6 6 ∷ agree 8 5 7 6 ∷ agree 0 5 5 6 ∷ [] ≡ 8 ∷ 5 ∷ 6 ∷ 5 ∷ [])
     × (agree 0 0 0 9 ∷ agree 9 0 9 0 ∷ [] ≡ 0 ∷ 0 ∷ [])
 unfolding agreed
-clocks-agree = (refl, refl, refl)
+clocks_agree = (refl, refl, refl)
 
 -- "the lowest place that may be voted for": of epoch 3, on a firm block of at least the bar; none
 ballot-is :

@@ -21,8 +21,8 @@ use Rattle.pala.specs.Rules.{freshest}
 use Rattle.pala.specs.Step.{outcome, room, step_shaped, step}
 use Rattle.pala.proofs.Sized.{RowSized}
 use Rattle.pala.proofs.Shapes.{shaped-count}
-use Rattle.pala.proofs.Moves.{passed, name-length, payload-length, record-length}
-use Rattle.pala.proofs.Keeps.{Proper, size-proper}
+use Rattle.pala.proofs.Moves.{passed, name-length, payload-length, record_length}
+use Rattle.pala.proofs.Keeps.{Proper, size_proper}
 
 pub message-length :
     (kind sender epoch : ℕ) (name parent payload : List ℕ) →
@@ -36,7 +36,7 @@ module _ (s : State) (k : Proper s) where
   -- every row of the table, and the root past its end
   pub at-sized : (p : ℕ) → RowSized (at (rows s) p)
   at-sized p =
-      let long : size (rows s) ≡ suc s.count = size-proper k in
+      let long : size (rows s) ≡ suc s.count = size_proper k in
       let held : s.count ≤ capacity = shaped-count s k.shaped in
       let row : (q : ℕ) → q ≤ capacity → RowSized (get_or s.blocks q blank) = k.sized.row in
       elim (dec_le p s.count) [
@@ -62,7 +62,7 @@ module _ (s : State) (k : Proper s) where
   unfolding step_shaped outcome
   out-length r out f =
       pick-case (λ (x : List ℕ). length x ≡ record_bytes) (taken (lowest_of (shaped_rows room s r out))) (sent s r out) out
-      (λ a. sent-length r out (record-length r out (passed room s r out a).lengths) f) (λ _. f)
+      (λ a. sent-length r out (record_length r out (passed room s r out a).lengths) f) (λ _. f)
 
 -- the name in a record that is sent
 pub name-sent : (kind sender epoch : ℕ) (name : List ℕ) → length name ≡ name_bytes

@@ -97,7 +97,7 @@ out_of_order =
     ∷ []
 
 -- the first are well shaped and the others not
-shapes-hold :
+shapes_hold :
     (map well_shaped in_order ≡ replicate 6 true) × (map well_shaped out_of_order ≡ replicate 25 false)
 unfolding well_shaped in_order out_of_order table blank filled
-shapes-hold = (refl, refl)
+shapes_hold = (refl, refl)

@@ -13,7 +13,7 @@ use Rattle.table.specs.Rows.{capacity, most_nodes, name_bytes, payload_bytes, bl
 use Rattle.table.proofs.Laws.{at_rows}
 use Rattle.pala.specs.Effects.{laid, with_block, with_vote, with_clock}
 use Rattle.pala.specs.Steps.{settled}
-use Rattle.pala.proofs.Grown.{laid_same, laid-other, length-block, length-vote}
+use Rattle.pala.proofs.Grown.{laid_same, laid_other, length-block, length-vote}
 
 -- "32-byte name", "24 opaque payload bytes", a mark for each of the 32 nodes
 pub record RowSized (b : Block) : Type 0 where
@@ -56,12 +56,12 @@ rows-laid :
 rows-laid l p b h new old q m =
     elim (ℕ_discrete q p) [
       | yes d ↦ subst (λ (x : ℕ). RowSized (get_or (laid l p b) x blank)) (sym d) (subst RowSized (sym (laid_same l p b blank h)) new)
-      | no d ↦ subst RowSized (sym (laid-other l p q b blank h d)) (old q m)
+      | no d ↦ subst RowSized (sym (laid_other l p q b blank h d)) (old q m)
     ]
 
-voter-sized : (b : Block) (i : ℕ) → RowSized b → RowSized (with_voter b i)
+voter_sized : (b : Block) (i : ℕ) → RowSized b → RowSized (with_voter b i)
 unfolding with_voter
-voter-sized b i h =
+voter_sized b i h =
     record { name = h.name; payload = h.payload; voters = length-set b.voters i true ∙ h.voters }
 
 module _ (s : State) (h : Sized s) where
@@ -83,7 +83,7 @@ module _ (s : State) (h : Sized s) where
       record {
         blocks = length-vote s p i voted inside ∙ h.blocks;
         clocks = h.clocks;
-        row = rows-laid s.blocks p (with_voter (at (rows s) p) i) inside (voter-sized (at (rows s) p) i row) h.row;
+        row = rows-laid s.blocks p (with_voter (at (rows s) p) i) inside (voter_sized (at (rows s) p) i row) h.row;
       }
 
   pub sized-clock : (i c : ℕ) → Sized (with_clock s i c)

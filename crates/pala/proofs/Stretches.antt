@@ -17,44 +17,44 @@ use Rattle.pala.specs.Lines.{line_of, lines}
 
 module _ (size : ℕ) (some : 1 ≤ size) where
   -- more steps than there are bytes change nothing
-  cut-fuel : (k j : ℕ) (bytes : List ℕ) → length bytes ≤ k → length bytes ≤ j → cut_in size k bytes ≡ cut_in size j bytes
+  cut_fuel : (k j : ℕ) (bytes : List ℕ) → length bytes ≤ k → length bytes ≤ j → cut_in size k bytes ≡ cut_in size j bytes
   unfolding cut_in
-  cut-fuel zero zero bytes h g = refl
-  cut-fuel zero (suc j) [] h g = refl
-  cut-fuel zero (suc j) (b ∷ bytes) h g = absurd (omega arith)
-  cut-fuel (suc k) zero [] h g = refl
-  cut-fuel (suc k) zero (b ∷ bytes) h g = absurd (omega arith)
-  cut-fuel (suc k) (suc j) [] h g = refl
-  cut-fuel (suc k) (suc j) (b ∷ bytes) h g =
+  cut_fuel zero zero bytes h g = refl
+  cut_fuel zero (suc j) [] h g = refl
+  cut_fuel zero (suc j) (b ∷ bytes) h g = absurd (omega arith)
+  cut_fuel (suc k) zero [] h g = refl
+  cut_fuel (suc k) zero (b ∷ bytes) h g = absurd (omega arith)
+  cut_fuel (suc k) (suc j) [] h g = refl
+  cut_fuel (suc k) (suc j) (b ∷ bytes) h g =
       let short : length (drop size (b ∷ bytes)) ≤ length bytes = omega (arith, length-drop size (b ∷ bytes)) in
-      ap (λ (l : List (List ℕ)). take size (b ∷ bytes) ∷ l) (cut-fuel k j (drop size (b ∷ bytes)) (omega arith) (omega arith))
+      ap (λ (l : List (List ℕ)). take size (b ∷ bytes) ∷ l) (cut_fuel k j (drop size (b ∷ bytes)) (omega arith) (omega arith))
 
   -- no byte, no stretch
-  pub cut-none : cut size [] ≡ []
+  pub cut_none : cut size [] ≡ []
   unfolding cut
-  cut-none = refl
+  cut_none = refl
 
   -- the first stretch, and then those of what is left
-  pub cut-more : (bytes : List ℕ) → 0 < length bytes → cut size bytes ≡ take size bytes ∷ cut size (drop size bytes)
+  pub cut_more : (bytes : List ℕ) → 0 < length bytes → cut size bytes ≡ take size bytes ∷ cut size (drop size bytes)
   unfolding cut
-  cut-more [] h = absurd (omega arith)
-  cut-more (b ∷ bytes) h =
+  cut_more [] h = absurd (omega arith)
+  cut_more (b ∷ bytes) h =
       let short : length (drop size (b ∷ bytes)) ≤ length bytes = omega (arith, length-drop size (b ∷ bytes)) in
       unfold cut_in in
       ap (λ (l : List (List ℕ)). take size (b ∷ bytes) ∷ l)
-      (cut-fuel (length bytes) (length (drop size (b ∷ bytes))) (drop size (b ∷ bytes)) (omega arith) (omega arith))
+      (cut_fuel (length bytes) (length (drop size (b ∷ bytes))) (drop size (b ∷ bytes)) (omega arith) (omega arith))
 
   -- whole stretches, and then the rest
   pub cut-append : (k : ℕ) (xs ys : List ℕ) → length xs ≡ k * size → cut size (xs ++ ys) ≡ cut size xs ++ cut size ys
-  cut-append zero [] ys h = sym (ap (λ (l : List (List ℕ)). l ++ cut size ys) cut-none)
+  cut-append zero [] ys h = sym (ap (λ (l : List (List ℕ)). l ++ cut size ys) cut_none)
   cut-append zero (x ∷ xs) ys h = absurd (omega arith)
   cut-append (suc k) xs ys h =
       let whole : length xs ≡ k * size + size = h ∙ suc-mul k size in
-      cut-more (xs ++ ys) (omega (arith, length-append xs ys))
+      cut_more (xs ++ ys) (omega (arith, length-append xs ys))
       ∙ ap (λ (l : List ℕ). l ∷ cut size (drop size (xs ++ ys))) (take-append-le size xs ys (omega arith))
       ∙ ap (λ (l : List ℕ). take size xs ∷ cut size l) (drop-append-le size xs ys (omega arith))
       ∙ ap (λ (l : List (List ℕ)). take size xs ∷ l) (cut-append k (drop size xs) ys (omega (arith, length-drop size xs)))
-      ∙ ap (λ (l : List (List ℕ)). l ++ cut size ys) (sym (cut-more xs (omega arith)))
+      ∙ ap (λ (l : List (List ℕ)). l ++ cut size ys) (sym (cut_more xs (omega arith)))
 
   -- there is one for each stretch begun
   abbrev Counts : ℕ → ℕ → Type 0
@@ -96,23 +96,23 @@ abbrev pub part : List ℕ → ℕ → ℕ → List ℕ
 part bytes from size = take (from + size - from) (drop from bytes)
 
 -- the stretch at an index, and then those of what is left after it
-pub next-cut :
+pub next_cut :
     (whole : ℕ) → 1 ≤ whole → (input : List ℕ) (from size : ℕ) → from < length input → size ≡ min (length input - from) whole
     → cut whole (drop from input) ≡ part input from size ∷ cut whole (drop (from + size) input)
-next-cut whole some input from size l e =
+next_cut whole some input from size l e =
     let left : length (drop from input) ≡ length input - from = length-drop from input in
     let same : size ≡ min (length (drop from input)) whole = omega arith in
     let long : size ≡ from + size - from = omega arith in
     let parts = part_cut (drop from input) whole size same in
-    cut-more whole some (drop from input) (omega arith)
+    cut_more whole some (drop from input) (omega arith)
     ∙ ap (λ (x : List ℕ). x ∷ cut whole (drop whole (drop from input))) (parts.0 ∙ ap (λ (n : ℕ). take n (drop from input)) long)
     ∙ ap (λ (x : List ℕ). part input from size ∷ cut whole x) (parts.1 ∙ drop-drop size from input)
 
 -- ---- those of 96 bytes
 
-pub stretches-none : stretches [] ≡ []
+pub stretches_none : stretches [] ≡ []
 unfolding stretches
-stretches-none = cut-none record_bytes (omega arith)
+stretches_none = cut_none record_bytes (omega arith)
 
 -- whole records, and then the rest
 pub stretches-append :
@@ -124,28 +124,28 @@ pub stretches-count : (bytes : List ℕ) → length (stretches bytes) ≡ (lengt
 unfolding stretches
 stretches-count bytes = let counted = cut-count record_bytes (omega arith) bytes in omega (arith, counted.0, counted.1)
 
-pub next-stretch :
+pub next_stretch :
     (input : List ℕ) (from size : ℕ) → from < length input → size ≡ min (length input - from) record_bytes
     → stretches (drop from input) ≡ part input from size ∷ stretches (drop (from + size) input)
 unfolding stretches
-next-stretch input from size l e = next-cut record_bytes (omega arith) input from size l e
+next_stretch input from size l e = next_cut record_bytes (omega arith) input from size l e
 
 -- ---- one record
 
 -- playing on from after a record is playing on from before it
-pub played-next :
+pub played_next :
     (records : List ℕ) (from : ℕ) (t u : State) → from + record_bytes ≤ length records → u ≡ (step t (part records from record_bytes) lent).state
     → played u (stretches (drop (from + record_bytes) records)) ≡ played t (stretches (drop from records))
 unfolding played
-played-next records from t u l e =
+played_next records from t u l e =
     ap (λ (x : State). played x (stretches (drop (from + record_bytes) records))) e
-    ∙ ap (λ (x : List (List ℕ)). played t x) (sym (next-stretch records from record_bytes (omega arith) (omega arith)))
+    ∙ ap (λ (x : List (List ℕ)). played t x) (sym (next_stretch records from record_bytes (omega arith) (omega arith)))
 
 -- past the end nothing is left to play
-pub played-end : (records : List ℕ) (from : ℕ) (t : State) → length records ≤ from → t ≡ played t (stretches (drop from records))
+pub played_end : (records : List ℕ) (from : ℕ) (t : State) → length records ≤ from → t ≡ played t (stretches (drop from records))
 unfolding played
-played-end records from t l =
-    ap (λ (x : List (List ℕ)). played t x) (sym (ap (λ (x : List ℕ). stretches x) (drop_of_length-le records {i = from} l) ∙ stretches-none))
+played_end records from t l =
+    ap (λ (x : List (List ℕ)). played t x) (sym (ap (λ (x : List ℕ). stretches x) (drop_of_length-le records {i = from} l) ∙ stretches_none))
 
 -- ---- one piece after another
 

@@ -25,13 +25,13 @@ or_r true b e = refl
 or_r false b e = e
 
 -- neither of two: what a refused disjunction tells
-pub nor-l : (a b : Bool) → (a || b) ≡ false → a ≡ false
-nor-l true b e = e
-nor-l false b e = refl
+pub nor_l : (a b : Bool) → (a || b) ≡ false → a ≡ false
+nor_l true b e = e
+nor_l false b e = refl
 
-pub nor-r : (a b : Bool) → (a || b) ≡ false → b ≡ false
-nor-r true b e = absurd (true≢false e)
-nor-r false b e = e
+pub nor_r : (a b : Bool) → (a || b) ≡ false → b ≡ false
+nor_r true b e = absurd (true≢false e)
+nor_r false b e = e
 
 -- a conjunction that fails where its first part holds
 pub nand : (a b : Bool) → (a && b) ≡ false → a ≡ true → b ≡ false

@@ -7,5 +7,5 @@ use Rattle.record.proofs.write.Reads as write
 fields-at-one : (κs : _) (a : _) (r q : _) (s t : _) → fields_at.Post κs a r s → fields_at.Post κs a q t → r ≡ q
 fields-at-one κs a r q s t = one-outcome
 
-write-one : (κs : _) (a : _) (r q : _) (s t : _) → write.Post κs a r s → write.Post κs a q t → s.0.now ≡ t.0.now
-write-one κs a r q s t = one-outcome
+write_one : (κs : _) (a : _) (r q : _) (s t : _) → write.Post κs a r s → write.Post κs a q t → s.0.now ≡ t.0.now
+write_one κs a r q s t = one-outcome

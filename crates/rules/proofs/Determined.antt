@@ -7,11 +7,11 @@ use Rattle.rules.proofs.steps.freshest.Reads as freshest
 use Rattle.rules.proofs.steps.ballot.Reads as ballot
 use Rattle.rules.proofs.steps.standing.Reads as standing
 
-enough-one : (κs : _) (a : _) (r q : _) (s t : _) → enough.Post κs a r s → enough.Post κs a q t → r ≡ q
-enough-one κs a r q s t = one-outcome
+enough_one : (κs : _) (a : _) (r q : _) (s t : _) → enough.Post κs a r s → enough.Post κs a q t → r ≡ q
+enough_one κs a r q s t = one-outcome
 
-columns-of-one : (κs : _) (a : _) (r q : _) (s t : _) → columns_of.Post κs a r s → columns_of.Post κs a q t → r ≡ q
-columns-of-one κs a r q s t = one-outcome
+columns_of_one : (κs : _) (a : _) (r q : _) (s t : _) → columns_of.Post κs a r s → columns_of.Post κs a q t → r ≡ q
+columns_of_one κs a r q s t = one-outcome
 
 freshest-one : (κs : _) (a : _) (r q : _) (s t : _) → freshest.Post κs a r s → freshest.Post κs a q t → r ≡ q
 freshest-one κs a r q s t = one-outcome
@@ -19,5 +19,5 @@ freshest-one κs a r q s t = one-outcome
 ballot-one : (κs : _) (a : _) (r q : _) (s t : _) → ballot.Post κs a r s → ballot.Post κs a q t → r ≡ q
 ballot-one κs a r q s t = one-outcome
 
-standing-one : (κs : _) (a : _) (r q : _) (s t : _) → standing.Post κs a r s → standing.Post κs a q t → r ≡ q
-standing-one κs a r q s t = one-outcome
+standing_one : (κs : _) (a : _) (r q : _) (s t : _) → standing.Post κs a r s → standing.Post κs a q t → r ≡ q
+standing_one κs a r q s t = one-outcome

@@ -63,8 +63,8 @@ module _ (ok : ℕ → Bool) (rank : ℕ → ℕ) where
 
   -- a turn looks at k - 1: it can't win, or it is taken
   module _ (k best top : ℕ) (more : 1 < k) where
-    pub joined-passed : (ok (k - 1) ≡ true → rank (k - 1) < top) → joined k best top ≡ joined (k - 1) best top
-    joined-passed h = ap (λ (j : ℕ). joined j best top) (omega arith) ∙ passed (k - 1) best top h
+    pub joined_passed : (ok (k - 1) ≡ true → rank (k - 1) < top) → joined k best top ≡ joined (k - 1) best top
+    joined_passed h = ap (λ (j : ℕ). joined j best top) (omega arith) ∙ passed (k - 1) best top h
 
     joined-taken : ok (k - 1) ≡ true → top ≤ rank (k - 1) → joined k best top ≡ joined (k - 1) (k - 1) (rank (k - 1))
     joined-taken y h = ap (λ (j : ℕ). joined j best top) (omega arith) ∙ taken (k - 1) best top y h
@@ -74,14 +74,14 @@ module _ (ok : ℕ → Bool) (rank : ℕ → ℕ) where
   against k best = joined k best.place.0 best.epoch.0
 
   -- a turn that asks both: the block at k - 1 wins, or what was best stays
-  pub against-turn : (k : ℕ) (here best : Top) (wins : Bool) → 1 < k → here ≡ top_at rank (k - 1)
+  pub against_turn : (k : ℕ) (here best : Top) (wins : Bool) → 1 < k → here ≡ top_at rank (k - 1)
       → (wins ≡ true → (ok (k - 1) ≡ true) × (best.epoch.0 ≤ rank (k - 1)))
       → (wins ≡ false → ok (k - 1) ≡ true → rank (k - 1) < best.epoch.0)
       → against k best ≡ against (k - 1) (pick wins here best)
-  against-turn k here best wins more e win lose =
+  against_turn k here best wins more e win lose =
       pick-case (λ (w : Top). against k best ≡ against (k - 1) w) wins here best
       (λ y. joined-taken k best.place.0 best.epoch.0 more (win y).0 (win y).1 ∙ ap (against (k - 1)) (sym e))
-      (λ n. joined-passed k best.place.0 best.epoch.0 more (lose n))
+      (λ n. joined_passed k best.place.0 best.epoch.0 more (lose n))
 
   -- below 1 there is only 0
   highest-one : (k : ℕ) → k ≤ 1 → highest k ok rank ≡ 0
@@ -106,33 +106,33 @@ and-false false = refl
 
 module _ (up epoch : ℕ → ℕ) (mark : ℕ → Bool) (local bar : ℕ) where
   module _ (p : ℕ) where
-    pub open-other : (epoch p ≡ local → ⊥) → open_by up epoch mark local bar p ≡ false
+    pub open_other : (epoch p ≡ local → ⊥) → open_by up epoch mark local bar p ≡ false
     unfolding open_by
-    open-other h = ap (λ (b : Bool). b && firm_by up mark (lower up p) && leb bar (epoch (lower up p))) (ne_eqb (epoch p) local h)
+    open_other h = ap (λ (b : Bool). b && firm_by up mark (lower up p) && leb bar (epoch (lower up p))) (ne_eqb (epoch p) local h)
 
-    pub open-barred : epoch (lower up p) < bar → open_by up epoch mark local bar p ≡ false
+    pub open_barred : epoch (lower up p) < bar → open_by up epoch mark local bar p ≡ false
     unfolding open_by
-    open-barred h =
+    open_barred h =
         ap (λ (b : Bool). eqb (epoch p) local && firm_by up mark (lower up p) && b) (lt-leb bar (epoch (lower up p)) h)
         ∙ and-false (eqb (epoch p) local && firm_by up mark (lower up p))
 
-    pub open-firm : epoch p ≡ local → bar ≤ epoch (lower up p) → open_by up epoch mark local bar p ≡ firm_by up mark (lower up p)
+    pub open_firm : epoch p ≡ local → bar ≤ epoch (lower up p) → open_by up epoch mark local bar p ≡ firm_by up mark (lower up p)
     unfolding open_by
-    open-firm e h =
+    open_firm e h =
         ap (λ (b : Bool). b && firm_by up mark (lower up p) && leb bar (epoch (lower up p))) (eq-eqb (epoch p) local e)
         ∙ ap (λ (b : Bool). firm_by up mark (lower up p) && b) (le-leb bar (epoch (lower up p)) h)
         ∙ and-true (firm_by up mark (lower up p))
 
-    pub votable-open : (voted : ℕ) → 0 < p → (voted ≡ local → ⊥) → votable_by up epoch mark local bar voted p ≡ open_by up epoch mark local bar p
+    pub votable_open : (voted : ℕ) → 0 < p → (voted ≡ local → ⊥) → votable_by up epoch mark local bar voted p ≡ open_by up epoch mark local bar p
     unfolding votable_by open_by
-    votable-open voted h n =
+    votable_open voted h n =
         ap (λ (b : Bool). b && eqb (epoch p) local && firm_by up mark (lower up p) && leb bar (epoch (lower up p)) && not (eqb voted local)) (lt-ltb 0 p h)
         ∙ ap (λ (b : Bool). open_by up epoch mark local bar p && not b) (ne_eqb voted local n)
         ∙ and-true (open_by up epoch mark local bar p)
 
-    pub votable-voted : (voted : ℕ) → voted ≡ local → votable_by up epoch mark local bar voted p ≡ false
+    pub votable_voted : (voted : ℕ) → voted ≡ local → votable_by up epoch mark local bar voted p ≡ false
     unfolding votable_by
-    votable-voted voted e =
+    votable_voted voted e =
         ap (λ (b : Bool). ltb 0 p && eqb (epoch p) local && firm_by up mark (lower up p) && leb bar (epoch (lower up p)) && not b) (eq-eqb voted local e)
         ∙ and-false (ltb 0 p && eqb (epoch p) local && firm_by up mark (lower up p) && leb bar (epoch (lower up p)))
 
@@ -140,4 +140,4 @@ module _ (up epoch : ℕ → ℕ) (mark : ℕ → Bool) (local bar : ℕ) where
   pub votable-not : (voted p : ℕ) → (voted ≡ local → ⊥) → (0 < p → open_by up epoch mark local bar p ≡ false) → votable_by up epoch mark local bar voted p ≡ false
   unfolding votable_by
   votable-not voted zero n h = refl
-  votable-not voted (suc p) n h = votable-open (suc p) voted (omega arith) n ∙ h (omega arith)
+  votable-not voted (suc p) n h = votable_open (suc p) voted (omega arith) n ∙ h (omega arith)

@@ -22,7 +22,7 @@ use Rattle.rules.specs.declared.Standing.{Standing}
 use Rattle.rules.specs.declared.Top.{Top}
 use Rattle.rules.specs.declared.scans.Tops.{Tops}
 use Rattle.rules.specs.Standing.{standing_by, tops_by}
-use Rattle.rules.proofs.Cells.{cell-up_to, made, made-end, made-start, made-step}
+use Rattle.rules.proofs.Cells.{cell_up_to, made, made_end, made_start, made_step}
 
 -- ---- the columns of a state
 
@@ -48,18 +48,18 @@ module _ (s : State) (held : length s.blocks ≡ places) where
     row-past p h = ap read (at_out (rows s) p h)
 
     -- a column's start is the root's row throughout, a turn puts one row in, and at the last row it is made
-    pub column-start : (d : Block) (x : A) → x ≡ read (get_or s.blocks 0 d) → replicate places x ≡ made (λ p. read (at (rows s) p)) 1
-    column-start d x e = made-start (λ p. read (at (rows s) p)) x (e ∙ ap read (sym (at_rows s 0 d zero-le (omega arith))))
+    pub column_start : (d : Block) (x : A) → x ≡ read (get_or s.blocks 0 d) → replicate places x ≡ made (λ p. read (at (rows s) p)) 1
+    column_start d x e = made_start (λ p. read (at (rows s) p)) x (e ∙ ap read (sym (at_rows s 0 d zero-le (omega arith))))
 
-    pub column-step : (d : Block) (k : ℕ) (col : List A) (x : A) → k ≤ s.count → k < places → col ≡ made (λ p. read (at (rows s) p)) k → x ≡ read (get_or s.blocks k d) → set col k x ≡ made (λ p. read (at (rows s) p)) (k + 1)
-    column-step d k col x l m h e =
-        made-step (λ p. read (at (rows s) p)) k col x m h (e ∙ ap read (sym (at_rows s k d l (omega arith))))
+    pub column_step : (d : Block) (k : ℕ) (col : List A) (x : A) → k ≤ s.count → k < places → col ≡ made (λ p. read (at (rows s) p)) k → x ≡ read (get_or s.blocks k d) → set col k x ≡ made (λ p. read (at (rows s) p)) (k + 1)
+    column_step d k col x l m h e =
+        made_step (λ p. read (at (rows s) p)) k col x m h (e ∙ ap read (sym (at_rows s k d l (omega arith))))
 
-    column-end : (k : ℕ) (col : List A) → k ≡ size (rows s) → col ≡ made (λ p. read (at (rows s) p)) k → col ≡ up_to places (λ p. read (at (rows s) p))
-    column-end k col e h = h ∙ made-end (λ p. read (at (rows s) p)) k (λ p l. row-past p (omega arith))
+    column_end : (k : ℕ) (col : List A) → k ≡ size (rows s) → col ≡ made (λ p. read (at (rows s) p)) k → col ≡ up_to places (λ p. read (at (rows s) p))
+    column_end k col e h = h ∙ made_end (λ p. read (at (rows s) p)) k (λ p l. row-past p (omega arith))
 
-    column-shows : (d : A) (p : ℕ) → cell d (up_to places (λ q. read (at (rows s) q))) p ≡ read (at (rows s) p)
-    column-shows d = cell-up_to d (λ p. read (at (rows s) p)) (λ p h. row-past p (omega (arith, size-le)))
+    column_shows : (d : A) (p : ℕ) → cell d (up_to places (λ q. read (at (rows s) q))) p ≡ read (at (rows s) p)
+    column_shows d = cell_up_to d (λ p. read (at (rows s) p)) (λ p h. row-past p (omega (arith, size-le)))
 
   -- a rule over the columns is the rule over the rows
   pub shown : {A : Type 0} (R : ℕ → (ℕ → ℕ) → (ℕ → ℕ) → (ℕ → Bool) → A) (c : Columns) → c ≡ columns s → R c.size (number_at c.parents) (number_at c.epochs) (mark_at c.marks) ≡ R (size (rows s)) (up_of (rows s)) (epoch_at (rows s)) (mark_of s.n (rows s))
@@ -69,32 +69,32 @@ module _ (s : State) (held : length s.blocks ≡ places) where
       let m : Block → Bool = λ b. leb (quorum s.n) (votes b) in
       let up : ℕ → ℕ = up_of t in
       ap (λ (x : Columns). R x.size (number_at x.parents) (number_at x.epochs) (mark_at x.marks)) e
-      ∙ ap (λ (f : ℕ → ℕ). R (size t) f (number_at (columns s).epochs) (mark_at (columns s).marks)) (fun_ext (column-shows (λ b. b.parent.0) 0))
-      ∙ ap (λ (f : ℕ → ℕ). R (size t) up f (mark_at (columns s).marks)) (fun_ext (column-shows (λ b. b.epoch.0) 0))
-      ∙ ap (λ (f : ℕ → Bool). R (size t) up (epoch_at t) f) (fun_ext (column-shows m false))
+      ∙ ap (λ (f : ℕ → ℕ). R (size t) f (number_at (columns s).epochs) (mark_at (columns s).marks)) (fun_ext (column_shows (λ b. b.parent.0) 0))
+      ∙ ap (λ (f : ℕ → ℕ). R (size t) up f (mark_at (columns s).marks)) (fun_ext (column_shows (λ b. b.epoch.0) 0))
+      ∙ ap (λ (f : ℕ → Bool). R (size t) up (epoch_at t) f) (fun_ext (column_shows m false))
 
   -- and so is one over no more places than the columns have: a table has no more
-  shown-within : {A : Type 0} (R : ℕ → (ℕ → ℕ) → (ℕ → ℕ) → (ℕ → Bool) → A) (c : Columns) → c ≡ columns s → R (min c.size places) (number_at c.parents) (number_at c.epochs) (mark_at c.marks) ≡ R (size (rows s)) (up_of (rows s)) (epoch_at (rows s)) (mark_of s.n (rows s))
-  shown-within R c e =
+  shown_within : {A : Type 0} (R : ℕ → (ℕ → ℕ) → (ℕ → ℕ) → (ℕ → Bool) → A) (c : Columns) → c ≡ columns s → R (min c.size places) (number_at c.parents) (number_at c.epochs) (mark_at c.marks) ≡ R (size (rows s)) (up_of (rows s)) (epoch_at (rows s)) (mark_of s.n (rows s))
+  shown_within R c e =
       let fits : min (size (rows s)) places ≡ size (rows s) = omega (arith, size-le) in
       shown (λ k. R (min k places)) c e ∙ ap (λ (k : ℕ). R k (up_of (rows s)) (epoch_at (rows s)) (mark_of s.n (rows s))) fits
 
   -- the columns are made once the last row is in them
-  pub columns-made : (parents epochs : List ℕ) (marks : List Bool) (k end : ℕ) → k ≡ end → end ≡ size (rows s) → parents ≡ made (λ p. (at (rows s) p).parent.0) k → epochs ≡ made (λ p. (at (rows s) p).epoch.0) k → marks ≡ made (λ p. leb (quorum s.n) (votes (at (rows s) p))) k → record { parents = parents; epochs = epochs; marks = marks; size = end } ≡ columns s
+  pub columns_made : (parents epochs : List ℕ) (marks : List Bool) (k end : ℕ) → k ≡ end → end ≡ size (rows s) → parents ≡ made (λ p. (at (rows s) p).parent.0) k → epochs ≡ made (λ p. (at (rows s) p).epoch.0) k → marks ≡ made (λ p. leb (quorum s.n) (votes (at (rows s) p))) k → record { parents = parents; epochs = epochs; marks = marks; size = end } ≡ columns s
   unfolding columns up_of epoch_at mark_of
-  columns-made parents epochs marks k end z e up ep mark =
-      let up_is = column-end (λ b. b.parent.0) k parents (z ∙ e) up in
-      let epoch-is = column-end (λ b. b.epoch.0) k epochs (z ∙ e) ep in
-      let mark-is = column-end (λ b. leb (quorum s.n) (votes b)) k marks (z ∙ e) mark in
+  columns_made parents epochs marks k end z e up ep mark =
+      let up_is = column_end (λ b. b.parent.0) k parents (z ∙ e) up in
+      let epoch-is = column_end (λ b. b.epoch.0) k epochs (z ∙ e) ep in
+      let mark_is = column_end (λ b. leb (quorum s.n) (votes b)) k marks (z ∙ e) mark in
       ap (λ (x : List ℕ). record { parents = x; epochs = epochs; marks = marks; size = end }) up_is
       ∙ ap (λ (x : List ℕ). record { parents = (columns s).parents; epochs = x; marks = marks; size = end }) epoch-is
-      ∙ ap (λ (x : List Bool). record { parents = (columns s).parents; epochs = (columns s).epochs; marks = x; size = end }) mark-is
+      ∙ ap (λ (x : List Bool). record { parents = (columns s).parents; epochs = (columns s).epochs; marks = x; size = end }) mark_is
       ∙ ap (λ (x : ℕ). record { parents = (columns s).parents; epochs = (columns s).epochs; marks = (columns s).marks; size = x }) e
 
   module _ (c : Columns) (e : c ≡ columns s) where
     pub freshest-shown : freshest_by (min c.size places) (number_at c.parents) (number_at c.epochs) (mark_at c.marks) ≡ freshest s.n (rows s)
     unfolding freshest_by freshest firm_by firm notarized line up_of mark_of
-    freshest-shown = shown-within (λ k up epoch mark. freshest_by k up epoch mark) c e
+    freshest-shown = shown_within (λ k up epoch mark. freshest_by k up epoch mark) c e
 
     pub ballot-shown : (local bar voted : ℕ) → lowest c.size (votable_by (number_at c.parents) (number_at c.epochs) (mark_at c.marks) local bar voted) ≡ ballot s.n (rows s) local bar voted
     unfolding votable_by ballot votable firm_by firm notarized line parent_of up_of mark_of
@@ -105,22 +105,22 @@ module _ (s : State) (held : length s.blocks ≡ places) where
     unfolding fresh_epoch
     fresh-shown = shown (λ _ _ epoch _. epoch (freshest s.n (rows s))) c e
 
-    pub top-shown : (tops : Tops) (fresh : Epoch)
+    pub top_shown : (tops : Tops) (fresh : Epoch)
         → tops ≡ tops_by (min c.size places) (number_at c.parents) (number_at c.epochs) (mark_at c.marks)
         → fresh ≡ record { 0 = number_at c.epochs tops.fresh.0 }
         → ◌≡◌ {A = Top} (record { place = tops.fresh; epoch = fresh }) (record { place = record { 0 = freshest s.n (rows s) }; epoch = record { 0 = fresh_epoch s } })
     unfolding tops_by
-    top-shown tops fresh tops-is fresh-is =
+    top_shown tops fresh tops-is fresh-is =
         let at : tops.fresh ≡ record { 0 = freshest s.n (rows s) } = ap (λ (w : Tops). w.fresh) tops-is ∙ ap (λ (k : ℕ). record { 0 = k }) freshest-shown in
         let of : fresh ≡ record { 0 = fresh_epoch s } =
         fresh-is ∙ ap (λ (q : Place). record { 0 = number_at c.epochs q.0 }) at ∙ ap (λ (k : ℕ). record { 0 = k }) fresh-shown in
         λ i. record { place = at i; epoch = of i }
 
     -- the freshest block, the freshest normal one, that one's parent, and what is told of them
-    pub standing-shown : standing_by c s.clocks s.n s.local.0 s.kept.0 ≡ standing s
+    pub standing_shown : standing_by c s.clocks s.n s.local.0 s.kept.0 ≡ standing s
     unfolding standing_by standing tops_by fresh_epoch forward descends line candidate parent_of normal freshest freshest_normal freshest_by freshest_normal_by firm_by firm notarized normal_by up_of mark_of
-    standing-shown =
-        shown-within
+    standing_shown =
+        shown_within
         (λ k up epoch mark.
         let next : ℕ = lower up (freshest_normal_by k up epoch mark) in
         record {
@@ -144,7 +144,7 @@ module _ (c : Columns) (clocks : List Epoch) (n local kept : ℕ) where
   tops : Tops
   tops = tops_by (min c.size places) up epoch (mark_at c.marks)
 
-  pub standing-made : (found : Tops) (cand : Place) (fresh clock : Epoch) (fwd back : Bool)
+  pub standing_made : (found : Tops) (cand : Place) (fresh clock : Epoch) (fwd back : Bool)
       → found ≡ tops_by (min c.size places) (number_at c.parents) (number_at c.epochs) (mark_at c.marks)
       → cand ≡ record { 0 = lower (number_at c.parents) found.normal.0 }
       → fresh ≡ record { 0 = number_at c.epochs found.fresh.0 }
@@ -153,9 +153,9 @@ module _ (c : Columns) (clocks : List Epoch) (n local kept : ℕ) where
       → back ≡ among cand.0 (fall (number_at c.parents) kept)
       → record { fresh = fresh; clock = clock; candidate = cand; forward = fwd; back = back } ≡ standing_by c clocks n local kept
   unfolding standing_by up epoch tops
-  standing-made found cand fresh clock fwd back found-is cand-is fresh-is clock-is fwd-is back_is =
-      let cand-at : cand ≡ record { 0 = lower up tops.normal.0 } = cand-is ∙ ap (λ (w : Tops). record { 0 = lower up w.normal.0 }) found-is in
-      let fresh_at = fresh-is ∙ ap (λ (w : Tops). record { 0 = epoch w.fresh.0 }) found-is in
+  standing_made found cand fresh clock fwd back found_is cand-is fresh-is clock-is fwd-is back_is =
+      let cand-at : cand ≡ record { 0 = lower up tops.normal.0 } = cand-is ∙ ap (λ (w : Tops). record { 0 = lower up w.normal.0 }) found_is in
+      let fresh_at = fresh-is ∙ ap (λ (w : Tops). record { 0 = epoch w.fresh.0 }) found_is in
       let fwd-at = fwd-is ∙ ap (λ (q : Place). among kept (fall up q.0)) cand-at in
       let back_at = back_is ∙ ap (λ (q : Place). among q.0 (fall up kept)) cand-at in
       λ i. record { fresh = fresh_at i; clock = clock-is i; candidate = cand-at i; forward = fwd-at i; back = back_at i }

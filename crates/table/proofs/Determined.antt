@@ -6,7 +6,7 @@ use Rattle.table.proofs.names.zero_name.Reads as zero-name
 use Rattle.table.proofs.rows.at.Reads as at
 use Rattle.table.proofs.rows.find.Reads as find
 use Rattle.table.proofs.rows.row_of.Reads as row_of
-use Rattle.table.proofs.rows.size_of.Reads as type_size
+use Rattle.table.proofs.rows.size_of.Reads as size_of
 use Rattle.table.proofs.voters.has_voter.Reads as has-voter
 use Rattle.table.proofs.voters.with_voter.Reads as with-voter
 use Rattle.table.proofs.voters.votes.Reads as votes
@@ -22,20 +22,20 @@ zero-name-one κs a r q s t = one-outcome
 at_one : (κs : _) (a : _) (r q : _) (s t : _) → at.Post κs a r s → at.Post κs a q t → r ≡ q
 at_one κs a r q s t = one-outcome
 
-row-of-one : (κs : _) (a : _) (r q : _) (s t : _) → row_of.Post κs a r s → row_of.Post κs a q t → r ≡ q
-row-of-one κs a r q s t = one-outcome
+row_of_one : (κs : _) (a : _) (r q : _) (s t : _) → row_of.Post κs a r s → row_of.Post κs a q t → r ≡ q
+row_of_one κs a r q s t = one-outcome
 
-size-of-one : (κs : _) (a : _) (r q : _) (s t : _) → type_size.Post κs a r s → type_size.Post κs a q t → r ≡ q
-size-of-one κs a r q s t = one-outcome
+size_of_one : (κs : _) (a : _) (r q : _) (s t : _) → size_of.Post κs a r s → size_of.Post κs a q t → r ≡ q
+size_of_one κs a r q s t = one-outcome
 
 find-one : (κs : _) (a : _) (r q : _) (s t : _) → find.Post κs a r s → find.Post κs a q t → r ≡ q
 find-one κs a r q s t = one-outcome
 
-has-voter-one : (κs : _) (a : _) (r q : _) (s t : _) → has-voter.Post κs a r s → has-voter.Post κs a q t → r ≡ q
-has-voter-one κs a r q s t = one-outcome
+has_voter_one : (κs : _) (a : _) (r q : _) (s t : _) → has-voter.Post κs a r s → has-voter.Post κs a q t → r ≡ q
+has_voter_one κs a r q s t = one-outcome
 
-with-voter-one : (κs : _) (a : _) (r q : _) (s t : _) → with-voter.Post κs a r s → with-voter.Post κs a q t → r ≡ q
-with-voter-one κs a r q s t = one-outcome
+with_voter_one : (κs : _) (a : _) (r q : _) (s t : _) → with-voter.Post κs a r s → with-voter.Post κs a q t → r ≡ q
+with_voter_one κs a r q s t = one-outcome
 
 votes-one : (κs : _) (a : _) (r q : _) (s t : _) → votes.Post κs a r s → votes.Post κs a q t → r ≡ q
 votes-one κs a r q s t = one-outcome
@@ -43,5 +43,5 @@ votes-one κs a r q s t = one-outcome
 fresh-one : (κs : _) (a : _) (r q : _) (s t : _) → fresh.Post κs a r s → fresh.Post κs a q t → r ≡ q
 fresh-one κs a r q s t = one-outcome
 
-all-zero-one : (κs : _) (a : _) (r q : _) (s t : _) → all-zero.Post κs a r s → all-zero.Post κs a q t → r ≡ q
-all-zero-one κs a r q s t = one-outcome
+all_zero-one : (κs : _) (a : _) (r q : _) (s t : _) → all-zero.Post κs a r s → all-zero.Post κs a q t → r ≡ q
+all_zero-one κs a r q s t = one-outcome

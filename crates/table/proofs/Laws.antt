@@ -29,8 +29,8 @@ one-outcome p h = p ∙ sym h
 
 -- ---- tests
 
-pub not-both : {b : Bool} → b ≡ true → b ≡ false → ⊥
-not-both t f = true≢false (sym t ∙ f)
+pub not_both : {b : Bool} → b ≡ true → b ≡ false → ⊥
+not_both t f = true≢false (sym t ∙ f)
 
 -- what does not pass fails
 pub fails : (b : Bool) → (b ≡ true → ⊥) → b ≡ false
@@ -74,11 +74,11 @@ all_below-at (suc k) ok h i l =
     let both = (and-eq-true_iff (all_below k ok) (ok k)).0 h in
     below_more (λ j. ok j ≡ true) k (all_below-at k ok both.0) both.1 i (omega arith)
 
-pub all_below-all : (k : ℕ) (ok : ℕ → Bool) → ((i : ℕ) → i < k → ok i ≡ true) → all_below k ok ≡ true
+pub all_below_all : (k : ℕ) (ok : ℕ → Bool) → ((i : ℕ) → i < k → ok i ≡ true) → all_below k ok ≡ true
 unfolding all_below
-all_below-all zero ok h = refl
-all_below-all (suc k) ok h =
-    (and-eq-true_iff (all_below k ok) (ok k)).1 (all_below-all k ok (λ i l. h i (omega arith)), h k (le_refl (suc k)))
+all_below_all zero ok h = refl
+all_below_all (suc k) ok h =
+    (and-eq-true_iff (all_below k ok) (ok k)).1 (all_below_all k ok (λ i l. h i (omega arith)), h k (le_refl (suc k)))
 
 -- ---- count
 
@@ -115,11 +115,11 @@ count-some (suc k) ok h =
     ]
 
 -- a test that more numbers pass counts as many or more
-pub count-mono : (k : ℕ) (f g : ℕ → Bool) → ((i : ℕ) → i < k → f i ≡ true → g i ≡ true) → count k f ≤ count k g
+pub count_mono : (k : ℕ) (f g : ℕ → Bool) → ((i : ℕ) → i < k → f i ≡ true → g i ≡ true) → count k f ≤ count k g
 unfolding count
-count-mono zero f g h = omega arith
-count-mono (suc k) f g h =
-    omega (arith, count-mono k f g (λ i l. h i (omega arith)), step (f k) (g k) (h k (omega arith)))
+count_mono zero f g h = omega arith
+count_mono (suc k) f g h =
+    omega (arith, count_mono k f g (λ i l. h i (omega arith)), step (f k) (g k) (h k (omega arith)))
   where
     step : (a b : Bool) → (a ≡ true → b ≡ true) → pick a 1 0 ≤ pick b 1 0
     step true b w = rw (w refl) (omega arith)
@@ -174,22 +174,22 @@ lowest-lowest (suc k) ok =
 pub lowest-le : (k : ℕ) (ok : ℕ → Bool) → lowest k ok ≤ k
 lowest-le k ok = (lowest-lowest k ok).within
 
-pub lowest-hit : (k : ℕ) (ok : ℕ → Bool) → lowest k ok < k → ok (lowest k ok) ≡ true
-lowest-hit k ok = (lowest-lowest k ok).hit
+pub lowest_hit : (k : ℕ) (ok : ℕ → Bool) → lowest k ok < k → ok (lowest k ok) ≡ true
+lowest_hit k ok = (lowest-lowest k ok).hit
 
-pub lowest-below : (k : ℕ) (ok : ℕ → Bool) (i : ℕ) → i < lowest k ok → ok i ≡ false
-lowest-below k ok = (lowest-lowest k ok).below
+pub lowest_below : (k : ℕ) (ok : ℕ → Bool) (i : ℕ) → i < lowest k ok → ok i ≡ false
+lowest_below k ok = (lowest-lowest k ok).below
 
 -- the other way: a number that passes, with none below it that does, is the lowest; where none passes it is the bound
 pub lowest-is : (k : ℕ) (ok : ℕ → Bool) (w : ℕ) → w < k → ok w ≡ true → ((i : ℕ) → i < w → ok i ≡ false) → lowest k ok ≡ w
 lowest-is k ok w l h below =
-    let up : lowest k ok < w → ⊥ = λ m. not-both (lowest-hit k ok (omega arith)) (below (lowest k ok) m) in
-    let down : w < lowest k ok → ⊥ = λ m. not-both h (lowest-below k ok w m) in
+    let up : lowest k ok < w → ⊥ = λ m. not_both (lowest_hit k ok (omega arith)) (below (lowest k ok) m) in
+    let down : w < lowest k ok → ⊥ = λ m. not_both h (lowest_below k ok w m) in
     omega arith
 
-pub lowest-none : (k : ℕ) (ok : ℕ → Bool) → ((i : ℕ) → i < k → ok i ≡ false) → lowest k ok ≡ k
-lowest-none k ok none_below =
-    let up : lowest k ok < k → ⊥ = λ m. not-both (lowest-hit k ok m) (none_below (lowest k ok) m) in
+pub lowest_none : (k : ℕ) (ok : ℕ → Bool) → ((i : ℕ) → i < k → ok i ≡ false) → lowest k ok ≡ k
+lowest_none k ok none_below =
+    let up : lowest k ok < k → ⊥ = λ m. not_both (lowest_hit k ok m) (none_below (lowest k ok) m) in
     omega (arith, lowest-le k ok)
 
 -- ---- highest
@@ -199,11 +199,11 @@ abbrev pub Wins : (ℕ → ℕ) → ℕ → ℕ → Type 0
 Wins rank w i = (rank i < rank w) ⊎ ((rank i ≡ rank w) × (w ≤ i))
 
 -- of two only one wins over the other
-pub wins-once : (rank : ℕ → ℕ) (v w : ℕ) → Wins rank v w → Wins rank w v → v ≡ w
-wins-once rank v w (inl x) (inl y) = omega arith
-wins-once rank v w (inl x) (inr y) = omega arith
-wins-once rank v w (inr x) (inl y) = omega arith
-wins-once rank v w (inr x) (inr y) = omega arith
+pub wins_once : (rank : ℕ → ℕ) (v w : ℕ) → Wins rank v w → Wins rank w v → v ≡ w
+wins_once rank v w (inl x) (inl y) = omega arith
+wins_once rank v w (inl x) (inr y) = omega arith
+wins_once rank v w (inr x) (inl y) = omega arith
+wins_once rank v w (inr x) (inr y) = omega arith
 
 record Highest (k : ℕ) (ok : ℕ → Bool) (rank : ℕ → ℕ) (w : ℕ) : Type 0 where
   passes : (w ≡ 0) ⊎ ((w < k) × (ok w ≡ true))
@@ -246,20 +246,20 @@ highest-step k ok rank = rw add-one
 pub highest-passes : (k : ℕ) (ok : ℕ → Bool) (rank : ℕ → ℕ) → (highest k ok rank ≡ 0) ⊎ ((highest k ok rank < k) × (ok (highest k ok rank) ≡ true))
 highest-passes k ok rank = (highest-highest k ok rank).passes
 
-pub highest-in : (k : ℕ) (ok : ℕ → Bool) (rank : ℕ → ℕ) → 0 < k → highest k ok rank < k
-highest-in k ok rank h =
+pub highest_in : (k : ℕ) (ok : ℕ → Bool) (rank : ℕ → ℕ) → 0 < k → highest k ok rank < k
+highest_in k ok rank h =
     let b = highest k ok rank in
     ⊎_elim (λ (z : b ≡ 0). omega arith) (λ (z : (b < k) × (ok b ≡ true)). z.0) (highest-passes k ok rank)
 
-pub highest-wins : (k : ℕ) (ok : ℕ → Bool) (rank : ℕ → ℕ) (i : ℕ) → i < k → ok i ≡ true → Wins rank (highest k ok rank) i
-highest-wins k ok rank = (highest-highest k ok rank).wins
+pub highest_wins : (k : ℕ) (ok : ℕ → Bool) (rank : ℕ → ℕ) (i : ℕ) → i < k → ok i ≡ true → Wins rank (highest k ok rank) i
+highest_wins k ok rank = (highest-highest k ok rank).wins
 
 -- the other way, where 0 passes: a number that passes and wins over each that does is the winner
 pub highest-is : (k : ℕ) (ok : ℕ → Bool) (rank : ℕ → ℕ) (w : ℕ) → ok 0 ≡ true → w < k → ok w ≡ true → ((i : ℕ) → i < k → ok i ≡ true → Wins rank w i) → highest k ok rank ≡ w
 highest-is k ok rank w z l h wins =
     let b = highest k ok rank in
     let p : (b < k) × (ok b ≡ true) = ⊎_elim (λ e. (omega arith, ap ok e ∙ z)) (λ q. q) (highest-passes k ok rank) in
-    wins-once rank b w (highest-wins k ok rank w l h) (wins b p.0 p.1)
+    wins_once rank b w (highest_wins k ok rank w l h) (wins b p.0 p.1)
 
 -- ---- greatest
 
@@ -272,8 +272,8 @@ module _ (k : ℕ) (ok : ℕ → Bool) (value : ℕ → ℕ) (g : ℕ) (ih : Gre
   as_it_was : (x : ℕ) → x ≤ g → (max g x ≡ 0) ⊎ ((i : ℕ) × (i < suc k) × (ok i ≡ true) × (value i ≡ max g x))
   as_it_was x l = ⊎_elim (λ z. inl (omega arith)) (λ z. inr (z.0, omega arith, z.2, omega arith)) ih.reached
 
-  more-bounds : (x : ℕ) → (ok k ≡ true → value k ≤ x) → (i : ℕ) → i < suc k → ok i ≡ true → value i ≤ max g x
-  more-bounds x new i l =
+  more_bounds : (x : ℕ) → (ok k ≡ true → value k ≤ x) → (i : ℕ) → i < suc k → ok i ≡ true → value i ≤ max g x
+  more_bounds x new i l =
       below_more (λ j. ok j ≡ true → value j ≤ max g x) k (λ j m h. omega (arith, ih.bounds j m h)) (λ h. omega (arith, new h)) i (omega arith)
 
 greatest-greatest : (k : ℕ) (ok : ℕ → Bool) (value : ℕ → ℕ) → Greatest k ok value (greatest k ok value)
@@ -283,21 +283,21 @@ greatest-greatest (suc k) ok value =
     let g = greatest k ok value in
     let ih = greatest-greatest k ok value in
     let old = as_it_was k ok value g ih in
-    let bounds = more-bounds k ok value g ih in
+    let bounds = more_bounds k ok value g ih in
     pick-case (λ (x : ℕ). Greatest (suc k) ok value (max g x)) (ok k) (value k) 0
     (λ e.
     record {
       bounds = bounds (value k) (λ h. le_refl (value k));
       reached = elim (dec_le (value k) g) [ yes s ↦ old (value k) s | no s ↦ inr (k, le_refl (suc k), e, omega arith) ];
     })
-    (λ e. record { bounds = bounds 0 (λ h. absurd (not-both h e)); reached = old 0 zero-le })
+    (λ e. record { bounds = bounds 0 (λ h. absurd (not_both h e)); reached = old 0 zero-le })
 
 pub greatest-step : (k : ℕ) (ok : ℕ → Bool) (value : ℕ → ℕ) → greatest (k + 1) ok value ≡ max (greatest k ok value) (pick (ok k) (value k) 0)
 unfolding greatest
 greatest-step k ok value = rw add-one
 
-pub greatest-bounds : (k : ℕ) (ok : ℕ → Bool) (value : ℕ → ℕ) (i : ℕ) → i < k → ok i ≡ true → value i ≤ greatest k ok value
-greatest-bounds k ok value = (greatest-greatest k ok value).bounds
+pub greatest_bounds : (k : ℕ) (ok : ℕ → Bool) (value : ℕ → ℕ) (i : ℕ) → i < k → ok i ≡ true → value i ≤ greatest k ok value
+greatest_bounds k ok value = (greatest-greatest k ok value).bounds
 
 pub greatest-reached : (k : ℕ) (ok : ℕ → Bool) (value : ℕ → ℕ) → (greatest k ok value ≡ 0) ⊎ ((i : ℕ) × (i < k) × (ok i ≡ true) × (value i ≡ greatest k ok value))
 greatest-reached k ok value = (greatest-greatest k ok value).reached
@@ -306,7 +306,7 @@ pub greatest-is : (k : ℕ) (ok : ℕ → Bool) (value : ℕ → ℕ) (g : ℕ) 
 greatest-is k ok value g bounds reached =
     let m = greatest k ok value in
     let up : m ≤ g = ⊎_elim (λ z. omega arith) (λ z. omega (arith, bounds z.0 z.1 z.2)) (greatest-reached k ok value) in
-    let down : g ≤ m = ⊎_elim (λ z. omega arith) (λ z. omega (arith, greatest-bounds k ok value z.0 z.1 z.2)) reached in
+    let down : g ≤ m = ⊎_elim (λ z. omega arith) (λ z. omega (arith, greatest_bounds k ok value z.0 z.1 z.2)) reached in
     omega arith
 
 -- ---- lists
@@ -346,8 +346,8 @@ same_false a b h = fails (same a b) (λ e. h (same_true a b e))
 pub same_differs : (a b : List ℕ) (i : ℕ) → (get_or a i 0 ≡ get_or b i 0 → ⊥) → same a b ≡ false
 same_differs a b i h = same_false a b (λ e. h (ap (λ (l : List ℕ). get_or l i 0) e))
 
-pub same-all : (a b : List ℕ) (n : ℕ) → length a ≡ n → length b ≡ n → ((i : ℕ) → i < n → get_or a i 0 ≡ get_or b i 0) → same a b ≡ true
-same-all a b n p q h = ap (same a) (sym (ext_get_or 0 a b (p ∙ sym q) (λ i l. h i (omega arith)))) ∙ same_refl a
+pub same_all : (a b : List ℕ) (n : ℕ) → length a ≡ n → length b ≡ n → ((i : ℕ) → i < n → get_or a i 0 ≡ get_or b i 0) → same a b ≡ true
+same_all a b n p q h = ap (same a) (sym (ext_get_or 0 a b (p ∙ sym q) (λ i l. h i (omega arith)))) ∙ same_refl a
 
 -- a list is all zero where it is the same as as many zeros
 pub zeros-same : (a : List ℕ) (n : ℕ) → length a ≡ n → zeros a ≡ same a (replicate n 0)
@@ -355,8 +355,8 @@ unfolding zeros same
 zeros-same [] n e = ap (λ (k : ℕ). same [] (replicate k 0)) e
 zeros-same (x ∷ xs) n e = ap (λ (t : Bool). eqb x 0 && t) (zeros-same xs (length xs) refl) ∙ ap (λ (k : ℕ). same (x ∷ xs) (replicate k 0)) e
 
-pub zeros-true : (a : List ℕ) → zeros a ≡ true → a ≡ replicate (length a) 0
-zeros-true a h = same_true a (replicate (length a) 0) (sym (zeros-same a (length a) refl) ∙ h)
+pub zeros_true : (a : List ℕ) → zeros a ≡ true → a ≡ replicate (length a) 0
+zeros_true a h = same_true a (replicate (length a) 0) (sym (zeros-same a (length a) refl) ∙ h)
 
 pub zeros-replicate : (n : ℕ) → zeros (replicate n 0) ≡ true
 zeros-replicate n = zeros-same (replicate n 0) n (length-replicate n 0) ∙ same_refl (replicate n 0)
@@ -402,20 +402,20 @@ find-is t name w l h below = lowest-is (size t) (λ p. same (at t p).name name) 
 
 pub find_none : (t : List Block) (name : List ℕ) → ((i : ℕ) → i < size t → same (at t i).name name ≡ false) → find t name ≡ size t
 unfolding find
-find_none t name none_has = lowest-none (size t) (λ p. same (at t p).name name) none_has
+find_none t name none_has = lowest_none (size t) (λ p. same (at t p).name name) none_has
 
 -- .. and what is found there
-pub found-is : (t : List Block) (name : List ℕ) (p : ℕ) (b : Block) → find t name ≡ p → at t p ≡ b → ◌≡◌ {A = Found} (record { place = record { 0 = p }; block = b }) (record { place = record { 0 = find t name }; block = at t (find t name) })
-found-is t name p b e h =
+pub found_is : (t : List Block) (name : List ℕ) (p : ℕ) (b : Block) → find t name ≡ p → at t p ≡ b → ◌≡◌ {A = Found} (record { place = record { 0 = p }; block = b }) (record { place = record { 0 = find t name }; block = at t (find t name) })
+found_is t name p b e h =
     sym
     (ap (λ (w : ℕ). record { place = record { 0 = w }; block = at t w }) e
     ∙ ap (λ (x : Block). record { place = record { 0 = p }; block = x }) h)
 
 -- ---- voters
 
-pub voter-past : (b : Block) (i n : ℕ) → length b.voters ≡ n → n ≤ i → has_voter b i ≡ false
+pub voter_past : (b : Block) (i n : ℕ) → length b.voters ≡ n → n ≤ i → has_voter b i ≡ false
 unfolding has_voter
-voter-past b i n e h = get_or-eq_default b.voters false (omega arith)
+voter_past b i n e h = get_or-eq_default b.voters false (omega arith)
 
 pub with_voter-past : (b : Block) (i n : ℕ) → length b.voters ≡ n → n ≤ i → with_voter b i ≡ b
 unfolding with_voter

@@ -69,9 +69,9 @@ event_test n honest run book casts k =
     && (not (is proposal_heard (event_at run k).bytes || is propose_now (event_at run k).bytes)
     || fits_test book (rows s) s.count)
 
-cast-tested : (n : ℕ) (run : Run) (k j : ℕ) (name : List ℕ) (e : ℕ) → cast_test n run k j name e ≡ true → Cast n run k j name
+cast_tested : (n : ℕ) (run : Run) (k j : ℕ) (name : List ℕ) (e : ℕ) → cast_test n run k j name e ≡ true → Cast n run k j name
 unfolding cast_test
-cast-tested n run k j name e h = go (all_true (cast_tests n run k j name e) h)
+cast_tested n run k j name e h = go (all_true (cast_tests n run k j name e) h)
   where
     go : AllTrue (cast_tests n run k j name e) → Cast n run k j name
     go a =
@@ -87,9 +87,9 @@ cast-tested n run k j name e h = go (all_true (cast_tests n run k j name e) h)
           sent_name = same_true (name_of (outcome_at n run e).out) name a.1.1.1.1.1.1.1.0;
         }
 
-fits-tested : (book : Book) (t : List Block) (p : ℕ) → fits_test book t p ≡ true → Fits book t p
+fits_tested : (book : Book) (t : List Block) (p : ℕ) → fits_test book t p ≡ true → Fits book t p
 unfolding fits_test
-fits-tested book t p h =
+fits_tested book t p h =
     let a : eqb (epoch_at t p) (book (at t p).name).epoch ≡ true = search and_l in
     let b : same (at t (parent_of t p)).name (book (at t p).name).parent ≡ true = search and_r in
     record {
@@ -102,17 +102,17 @@ implied : (a b : Bool) → (not a || b) ≡ true → a ≡ true → b ≡ true
 implied a b h e = Shapes.or_r (not a) b h (ap not e)
 
 -- a run whose every event passes meets the premises event by event
-pub each-tested : (n : ℕ) (honest : ℕ → Bool) (run : Run) (book : Book) (casts : List ℕ)
+pub each_tested : (n : ℕ) (honest : ℕ → Bool) (run : Run) (book : Book) (casts : List ℕ)
     → all_below (length run) (event_test n honest run book casts) ≡ true → EachTaken n honest run book
 unfolding event_test
-each-tested n honest run book casts h k l hi answered =
+each_tested n honest run book casts h k l hi answered =
     record {
       vote = λ kind hj.
-          cast-tested n run k (sender_of r) (name_of r) (get_or casts k 0)
+          cast_tested n run k (sender_of r) (name_of r) (get_or casts k 0)
           (implied (is vote_heard r && honest (sender_of r)) cast_ok (and_l vote_ok block_ok it)
           (and_both (is vote_heard r) (honest (sender_of r)) (eq-eqb (kind_of r) vote_heard kind) hj.1));
       block = λ kind.
-          fits-tested book (rows (outcome_at n run k).state) (outcome_at n run k).state.count
+          fits_tested book (rows (outcome_at n run k).state) (outcome_at n run k).state.count
           (implied (is proposal_heard r || is propose_now r) fits_ok (and_r vote_ok block_ok it) (kinds kind));
     }
   where

@@ -19,8 +19,8 @@ use Rattle.pala.specs.Run.{lent}
 use Rattle.pala.specs.Step.{step, start}
 use Rattle.pala.specs.Safety.{Event, Run, Honest, NoForgedVote, OneBlockOneName, Book, shown_at, OneBegins}
 use Rattle.pala.specs.Events.{EachTaken, EventPremises}
-use Rattle.witness.proofs.Checked.{event_test, each-tested}
-use Rattle.pala.proofs.Demand.Events.{cast-by-event, fits-by-event, by-event}
+use Rattle.witness.proofs.Checked.{event_test, each_tested}
+use Rattle.pala.proofs.Demand.Events.{cast_by_event, fits_by_event, by_event}
 use Rattle.pala.proofs.Demand.Safety.{safe}
 
 -- gateway i is put a record
@@ -97,35 +97,35 @@ four_book x =
       parent = pick (same x A) no_name (pick (same x B) A B);
     }
 
-four-tested : all_below (length four_run) (event_test 4 four_honest four_run four_book four_casts) ≡ true
+four_tested : all_below (length four_run) (event_test 4 four_honest four_run four_book four_casts) ≡ true
 unfolding all_below event_test four_run four_honest four_book four_casts
-four-tested = refl
+four_tested = refl
 
 -- Not empty: the premises hold, each event was taken, and at the end gateways 0 and 2 show A, and gateway 1 shows A and B
-pub four-premises : EventPremises 4 four_honest four_run
+pub four_premises : EventPremises 4 four_honest four_run
 unfolding four_honest count pick
-four-premises =
+four_premises =
     record {
       some = omega arith;
       most = omega arith;
       few_faulty = omega arith;
       book = four_book;
-      each = each-tested 4 four_honest four_run four_book four_casts four-tested;
+      each = each_tested 4 four_honest four_run four_book four_casts four_tested;
     }
 
-pub four-shown :
+pub four_shown :
     (all_taken 4 four_run ≡ true)
     × (shown_at 4 four_run (length four_run) 0 ≡ A)
     × (shown_at 4 four_run (length four_run) 1 ≡ A ++ B)
     × (shown_at 4 four_run (length four_run) 2 ≡ A)
 unfolding all_taken shown_at four_run
-four-shown = (refl, refl, refl, refl)
+four_shown = (refl, refl, refl, refl)
 
 -- an instance of demand 3, at every two moments
-pub four-agree : (a b : ℕ) → OneBegins (shown_at 4 four_run a 0) (shown_at 4 four_run b 1)
+pub four_agree : (a b : ℕ) → OneBegins (shown_at 4 four_run a 0) (shown_at 4 four_run b 1)
 unfolding four_honest
-four-agree a b =
-    safe 4 four_honest four_run (by-event 4 four_honest four_run four-premises) 0 1 a b (omega arith, refl) (omega arith, refl)
+four_agree a b =
+    safe 4 four_honest four_run (by_event 4 four_honest four_run four_premises) 0 1 a b (omega arith, refl) (omega arith, refl)
 
 abbrev pub X : List ℕ
 X = letter 0x2A
@@ -158,16 +158,16 @@ three_book x =
       parent = pick (same x A') no_name (pick (same x B') A' (pick (same x X) no_name X));
     }
 
-three-tested : all_below (length three_run) (event_test 3 three_honest three_run three_book []) ≡ true
+three_tested : all_below (length three_run) (event_test 3 three_honest three_run three_book []) ≡ true
 unfolding all_below event_test three_run three_honest three_book
-three-tested = refl
+three_tested = refl
 
-pub three-shown :
+pub three_shown :
     (all_taken 3 three_run ≡ true)
     × (shown_at 3 three_run (length three_run) 0 ≡ X)
     × (shown_at 3 three_run (length three_run) 2 ≡ A')
 unfolding all_taken shown_at three_run
-three-shown = (refl, refl, refl)
+three_shown = (refl, refl, refl)
 
 -- Sharp: exactly a third is faulty, every other premise holds, and of the two chains neither begins the other
 pub sharp :
@@ -180,15 +180,15 @@ pub sharp :
 unfolding count pick three_honest
 sharp = (
   refl,
-  cast-by-event 3 three_honest three_run (omega arith) (omega arith) three_book each,
-  fits-by-event 3 three_honest three_run (omega arith) (omega arith) three_book each,
+  cast_by_event 3 three_honest three_run (omega arith) (omega arith) three_book each,
+  fits_by_event 3 three_honest three_run (omega arith) (omega arith) three_book each,
   (omega arith, refl),
   (omega arith, refl),
-  λ o. apart (subst₂ OneBegins three-shown.1 three-shown.2 o),
+  λ o. apart (subst₂ OneBegins three_shown.1 three_shown.2 o),
 )
   where
     each : EachTaken 3 three_honest three_run three_book
-    each = each-tested 3 three_honest three_run three_book [] three-tested
+    each = each_tested 3 three_honest three_run three_book [] three_tested
 
     first : {a b : List ℕ} → a ≡ b → get_or a 0 0 ≡ get_or b 0 0
     first e = ap (λ l. get_or l 0 0) e

@@ -30,8 +30,8 @@ returns c = tt
 returns-2 : tie.Need-returns-2 invariant-loop decreases-loop
 returns-2 c = tt
 
-pub play-all-spec : {M : Type 1} → statement M
-play-all-spec =
+pub play_all_spec : {M : Type 1} → statement M
+play_all_spec =
     tie.close
     (tie.spec
     invariant-loop

@@ -46,8 +46,8 @@ write-all-requires c κs = search rules
 returns : tie.Need-returns
 returns c = search rules
 
-pub play-some-spec : {M : Type 1} → statement M
-play-some-spec =
+pub play-some_spec : {M : Type 1} → statement M
+play-some_spec =
     tie.close
     (tie.spec
     slice-aggregate-read-full

@@ -29,8 +29,8 @@ write-all-requires c κs = search rules
 returns-2 : tie.Need-returns-2
 returns-2 c = search rules
 
-pub print-setup-spec : {M : Type 1} → statement M
-print-setup-spec =
+pub print_setup_spec : {M : Type 1} → statement M
+print_setup_spec =
     tie.close
     (tie.spec
     slice-aggregate-put-setup

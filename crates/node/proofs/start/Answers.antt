@@ -1,11 +1,11 @@
 -- A start, refused or not. Assumes nothing.
-use Rattle.node.proofs.Calls.{start-refused, start-taken}
+use Rattle.node.proofs.Calls.{start_refused, start-taken}
 use mathlib.Core.Path.{sym, ◌∙◌}
 use Rattle.node.proofs.start.Goals as goal
 
 pub returns-then-not-nodes : goal.returns-then-not-nodes
 returns-then-not-nodes c =
-    start-refused _ _ (sym c.nodes.ensures ∙ c.if-not-nodes.true) c.all_zero.ensures
+    start_refused _ _ (sym c.nodes.ensures ∙ c.if-not-nodes.true) c.all_zero.ensures
 
 pub returns : goal.returns
 returns c =

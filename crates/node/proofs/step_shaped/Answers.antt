@@ -1,5 +1,5 @@
 -- A call on a well-shaped state: the rows, and then what a taken record does. Assumes nothing.
-use Rattle.node.proofs.Calls.{call-refused, call-taken, out-off, row-torn, row-length, granted, decided-rows, decided-taken}
+use Rattle.node.proofs.Calls.{call_refused, call_taken, out_off, row_torn, row-length, granted, decided-rows, decided-taken}
 use Rattle.node.specs.Moves.{Granted}
 use Rattle.pala.specs.Answers.{taken, lowest_of, shaped_rows}
 use Rattle.pala.specs.Step.{room}
@@ -20,15 +20,15 @@ grants c = granted _ _ c.decide_shaped-d.ensures (takes c)
 
 pub returns-then-s : goal.returns-then-s
 unfolding taken
-returns-then-s c = call-refused _ _ _ refl (row-torn _ _ _ c.if-s.true)
+returns-then-s c = call_refused _ _ _ refl (row_torn _ _ _ c.if-s.true)
 
 pub returns-then-out-ne-RECORD_BYTES : goal.returns-then-out-ne-RECORD_BYTES
 unfolding taken
-returns-then-out-ne-RECORD_BYTES c = call-refused _ _ _ refl (row-length _ _ _ c.if-s.false (out-off _ _ c.if-out-ne-RECORD_BYTES.true))
+returns-then-out-ne-RECORD_BYTES c = call_refused _ _ _ refl (row-length _ _ _ c.if-s.false (out_off _ _ c.if-out-ne-RECORD_BYTES.true))
 
 pub returns-then-not-is_taken : goal.returns-then-not-is_taken
 returns-then-not-is_taken c =
-    call-refused _ _ _ (sym c.is_taken.ensures ∙ c.if-not-is_taken.true) (answers (goal.at.returns-then-not-is_taken c).After-decide_shaped-d)
+    call_refused _ _ _ (sym c.is_taken.ensures ∙ c.if-not-is_taken.true) (answers (goal.at.returns-then-not-is_taken c).After-decide_shaped-d)
 
 pub send-requires : goal.send-requires
 send-requires c =
@@ -40,6 +40,6 @@ take_shaped-requires c =
 
 pub returns : goal.returns
 returns c =
-    call-taken _ _ _ (takes (goal.at.returns c).Else-not-is_taken) (answers (goal.at.returns c).After-decide_shaped-d)
+    call_taken _ _ _ (takes (goal.at.returns c).Else-not-is_taken) (answers (goal.at.returns c).After-decide_shaped-d)
     (c.take_shaped.ensures _ c.decide_shaped-d.ensures ∙ sym (decided-taken _ _ c.requires c.decide_shaped-d.ensures (takes (goal.at.returns c).Else-not-is_taken)))
     (c.send.ensures _ (grants (goal.at.returns c).Else-not-is_taken) c.if-out-ne-RECORD_BYTES.false)

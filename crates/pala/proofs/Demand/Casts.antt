@@ -18,13 +18,13 @@ use Rattle.pala.specs.Safety.{Run, event_at, state_at, outcome_at, Cast}
 use Rattle.pala.proofs.Grown.{Grown}
 use Rattle.pala.proofs.Keeps.{Proper}
 use Rattle.pala.proofs.Sent.{at-sized, name-sent, cast-out}
-use Rattle.pala.proofs.Demand.Healthy.{did-grown}
-use Rattle.pala.proofs.Demand.Changes.{Voter, old, heard_of, its_own, new-voter}
+use Rattle.pala.proofs.Demand.Healthy.{did_grown}
+use Rattle.pala.proofs.Demand.Changes.{Voter, old, heard_of, its_own, new_voter}
 use Rattle.pala.proofs.Demand.Runs.{call_at, effect_at, outcome-is, Moved}
 
 -- a vote that was cast before a moment, had been cast by any later one
-pub cast-later : {n : ℕ} {run : Run} {i : ℕ} {x : List ℕ} (m k : ℕ) (c : Cast n run m i x) → c.event < k → Cast n run k i x
-cast-later m k c h =
+pub cast_later : {n : ℕ} {run : Run} {i : ℕ} {x : List ℕ} (m k : ℕ) (c : Cast n run m i x) → c.event < k → Cast n run k i x
+cast_later m k c h =
     record {
       event = c.event;
       before = h;
@@ -37,8 +37,8 @@ cast-later m k c h =
       sent_name = c.sent_name;
     }
 
-pub cast-next : {n : ℕ} {run : Run} {i : ℕ} {x : List ℕ} (m : ℕ) → Cast n run m i x → Cast n run (suc m) i x
-cast-next m c = cast-later m (suc m) c (omega (arith, c.before))
+pub cast_next : {n : ℕ} {run : Run} {i : ℕ} {x : List ℕ} (m : ℕ) → Cast n run m i x → Cast n run (suc m) i x
+cast_next m c = cast_later m (suc m) c (omega (arith, c.before))
 
 -- a cast at event m, seen from there
 module _ {n : ℕ} {run : Run} {m i : ℕ} {x : List ℕ} (c : Cast n run (suc m) i x) (e : c.event ≡ m) where
@@ -99,22 +99,22 @@ module _ {n : ℕ} {run : Run} {m i : ℕ} (k : Proper (state_at n run m i)) (se
       sent = ap (λ (o : Outcome). o.out) same ∙ cast-out s (event_at run m).bytes (event_at run m).buffer w.answered kind
 
   -- a voter that the table shows after it had cast its vote, where those shown before, and the one heard of, had
-  pub voter-cast : (p j : ℕ)
+  pub voter_cast : (p j : ℕ)
       → (p < size (rows (state_at n run m i)) → has_voter (at (rows (state_at n run m i)) p) j ≡ true → Cast n run m j (at (rows (state_at n run m i)) p).name)
       → (is vote_heard (event_at run m).bytes ≡ true → j ≡ sender_of (event_at run m).bytes → j ≢ i → Cast n run m j (name_of (event_at run m).bytes))
       → p < size (rows (effect_at n run m i)) → has_voter (at (rows (effect_at n run m i)) p) j ≡ true
       → Cast n run (suc m) j (at (rows (effect_at n run m i)) p).name
-  voter-cast p j before heard within v = go (new-voter k w.did p j within v)
+  voter_cast p j before heard within v = go (new_voter k w.did p j within v)
     where
       s : State
       s = state_at n run m i
 
       grown : Grown (rows s) (rows (effect_at n run m i))
-      grown = did-grown k w.did
+      grown = did_grown k w.did
 
       go : Voter s (event_at run m).bytes p j → Cast n run (suc m) j (at (rows (effect_at n run m i)) p).name
-      go (old l x) = subst (Cast n run (suc m) j) (sym (grown.name p l)) (cast-next m (before l x))
+      go (old l x) = subst (Cast n run (suc m) j) (sym (grown.name p l)) (cast_next m (before l x))
       go (heard_of kind e other l name) =
-          subst (Cast n run (suc m) j) (sym (grown.name p l ∙ name)) (cast-next m (heard kind e (λ d. other (sym e ∙ d ∙ sym self))))
+          subst (Cast n run (suc m) j) (sym (grown.name p l ∙ name)) (cast_next m (heard kind e (λ d. other (sym e ∙ d ∙ sym self))))
       go (its_own kind e z l) =
           subst₂ (Cast n run (suc m)) (sym (e ∙ self)) (sym (grown.name p l ∙ ap (λ q. (at (rows s) q).name) z)) (own-cast kind)

@@ -45,40 +45,40 @@ module _ {X : Type 0} (root : X) (epoch : X → ℕ) (parent : X → X) where
   Kept k Notarized x = (x ≡ root) ⊎ Final k Notarized x
 
   -- the parent of a notarized normal block, where it is firm, is final at lag 0
-  pub normal-final : {Notarized : X → Type 0} {x y : X}
+  pub normal_final : {Notarized : X → Type 0} {x y : X}
       → Firm Notarized x → Notarized y → parent y ≡ x → epoch y ≡ epoch x + 1 → Final 0 Notarized x
-  normal-final {x = x} {y} f ny p e =
+  normal_final {x = x} {y} f ny p e =
       record {
         firm = f;
         covered = λ c above top. (y, ny, omega arith, up {x = y} (rw p (omega arith)) (rw p here));
       }
 
   -- epochs don't fall on the way up
-  pub on-epoch : {a x : X} → On a x → epoch a ≤ epoch x
-  on-epoch here = omega arith
-  on-epoch (up g o) = omega (arith, on-epoch o)
+  pub on_epoch : {a x : X} → On a x → epoch a ≤ epoch x
+  on_epoch here = omega arith
+  on_epoch (up g o) = omega (arith, on_epoch o)
 
   -- what is on a and later has a parent no earlier than a
-  on-parent : {a x : X} → On a x → epoch a < epoch x → epoch a ≤ epoch (parent x)
-  on-parent here h = absurd (omega arith)
-  on-parent (up g o) h = on-epoch o
+  on_parent : {a x : X} → On a x → epoch a < epoch x → epoch a ≤ epoch (parent x)
+  on_parent here h = absurd (omega arith)
+  on_parent (up g o) h = on_epoch o
 
   -- a chain starts at the root, so none leads back to it
-  chain-epoch : {x : X} {l : List X} → Chain x l → epoch root ≤ epoch x
-  chain-epoch none = omega arith
-  chain-epoch (more g c) = omega (arith, chain-epoch c)
+  chain_epoch : {x : X} {l : List X} → Chain x l → epoch root ≤ epoch x
+  chain_epoch none = omega arith
+  chain_epoch (more g c) = omega (arith, chain_epoch c)
 
   -- a name has one chain
-  pub chain-one : {x y : X} {l m : List X} → x ≡ y → Chain x l → Chain y m → l ≡ m
-  chain-one e none none = refl
-  chain-one e none (more g d) = absurd (omega (arith, ap epoch e, chain-epoch d))
-  chain-one e (more g c) none = absurd (omega (arith, ap epoch e, chain-epoch c))
-  chain-one e (more g c) (more h d) = cc (chain-one (ap parent e) c d)
+  pub chain_one : {x y : X} {l m : List X} → x ≡ y → Chain x l → Chain y m → l ≡ m
+  chain_one e none none = refl
+  chain_one e none (more g d) = absurd (omega (arith, ap epoch e, chain_epoch d))
+  chain_one e (more g c) none = absurd (omega (arith, ap epoch e, chain_epoch c))
+  chain_one e (more g c) (more h d) = cc (chain_one (ap parent e) c d)
 
   -- the chain of what is on a begins with the chain of a
   pub begins : {a x : X} {l m : List X} → On a x → Chain a l → Chain x m → Goes l m
-  begins {l = l} here c d = ([], chain-one refl d c ∙ sym (append-nil l))
-  begins (up g o) c none = absurd (omega (arith, on-epoch o, chain-epoch c))
+  begins {l = l} here c d = ([], chain_one refl d c ∙ sym (append-nil l))
+  begins (up g o) c none = absurd (omega (arith, on_epoch o, chain_epoch c))
   begins {x = x} {l} (up g o) c (more h d) =
       let (rest, e) = begins o c d in
       (rest ++ (x ∷ []), ap (λ (s : List X). s ++ (x ∷ [])) e ∙ append_assoc l rest (x ∷ []))
@@ -90,9 +90,9 @@ module _ {X : Type 0} (root : X) (epoch : X → ℕ) (parent : X → X) where
     firm-epoch (next g n f) = omega (arith, firm-epoch f)
 
     -- a firm block no later than the root is the root
-    firm-root : {x : X} → Firm Notarized x → epoch x ≤ epoch root → x ≡ root
-    firm-root decreed h = refl
-    firm-root (next g n f) h = absurd (omega (arith, firm-epoch f))
+    firm_root : {x : X} → Firm Notarized x → epoch x ≤ epoch root → x ≡ root
+    firm_root decreed h = refl
+    firm_root (next g n f) h = absurd (omega (arith, firm-epoch f))
 
     -- a firm block later than the root is notarized
     firm-notarized : {x : X} → Firm Notarized x → epoch root < epoch x → Notarized x
@@ -115,9 +115,9 @@ module _ {X : Type 0} (root : X) (epoch : X → ℕ) (parent : X → X) where
     one-notarized n m e = let (i, v, w) = keeps.shares n m in keeps.once v w e
 
     -- a firm block no earlier than a final one is on it
-    pub final-below : {x z : X} → Final k Notarized x → Firm Notarized z → epoch x ≤ epoch z → On x z
-    final-below f decreed h = rw (firm-root f.firm h) here
-    final-below {x} {z} f (next g n fz) h =
+    pub final_below : {x z : X} → Final k Notarized x → Firm Notarized z → epoch x ≤ epoch z → On x z
+    final_below f decreed h = rw (firm_root f.firm h) here
+    final_below {x} {z} f (next g n fz) h =
         elim (dec_le (epoch z) (epoch x)) [
           | yes same ↦ rw (one-notarized (firm-notarized f.firm (omega (arith, firm-epoch fz))) n (omega arith)) here
           | no later ↦
@@ -126,25 +126,25 @@ module _ {X : Type 0} (root : X) (epoch : X → ℕ) (parent : X → X) where
                 | no far ↦
                     let (y, m, e, o) = f.covered (epoch x + 1) (omega arith) (omega arith) in
                     let (i, v, w) = keeps.shares m n in
-                    up g (final-below f fz (omega (arith, on-parent o (omega arith), keeps.monotone v w (omega arith))))
+                    up g (final_below f fz (omega (arith, on_parent o (omega arith), keeps.monotone v w (omega arith))))
               ]
         ]
 
     -- a firm block no earlier than a kept one is on it
-    pub kept-below : {x z : X} → Kept k Notarized x → Firm Notarized z → epoch x ≤ epoch z → On x z
-    kept-below (inl e) fz h = rw e (root_below fz)
-    kept-below (inr f) fz h = final-below f fz h
+    pub kept_below : {x z : X} → Kept k Notarized x → Firm Notarized z → epoch x ≤ epoch z → On x z
+    kept_below (inl e) fz h = rw e (root_below fz)
+    kept_below (inr f) fz h = final_below f fz h
 
     -- of two kept blocks one is on the other
-    pub in-line : {x y : X} → Kept k Notarized x → Kept k Notarized y → On x y ⊎ On y x
-    in-line {x} {y} kx ky =
+    pub in_line : {x y : X} → Kept k Notarized x → Kept k Notarized y → On x y ⊎ On y x
+    in_line {x} {y} kx ky =
         elim (dec_le (epoch x) (epoch y)) [
-          | yes h ↦ inl (kept-below kx (kept-firm ky) h)
-          | no h ↦ inr (kept-below ky (kept-firm kx) (omega arith))
+          | yes h ↦ inl (kept_below kx (kept-firm ky) h)
+          | no h ↦ inr (kept_below ky (kept-firm kx) (omega arith))
         ]
 
     -- of the chains of two kept blocks one begins the other
-    pub chains-agree : {x y : X} {l m : List X} → Kept k Notarized x → Kept k Notarized y → Chain x l → Chain y m
+    pub chains_agree : {x y : X} {l m : List X} → Kept k Notarized x → Kept k Notarized y → Chain x l → Chain y m
         → Goes l m ⊎ Goes m l
-    chains-agree kx ky cx cy =
-        elim (in-line kx ky) [ inl o ↦ inl (begins o cx cy) | inr o ↦ inr (begins o cy cx) ]
+    chains_agree kx ky cx cy =
+        elim (in_line kx ky) [ inl o ↦ inl (begins o cx cy) | inr o ↦ inr (begins o cy cx) ]

@@ -17,22 +17,22 @@ use Rattle.pala.specs.Step.{Outcome}
 use Rattle.pala.specs.Steps.{settled}
 use Rattle.pala.specs.Safety.{Run, event_at, state_at, table_at, outcome_at, Honest, Cast, Held, Book, Fits, NoForgedVote, OneBlockOneName}
 use Rattle.pala.specs.Events.{Taken, EachTaken, EventForm}
-use Rattle.pala.proofs.Grown.{Grown, grown-parent, grown-epoch}
-use Rattle.pala.proofs.Places.{parent-below}
+use Rattle.pala.proofs.Grown.{Grown, grown_parent, grown_epoch}
+use Rattle.pala.proofs.Places.{parent_below}
 use Rattle.pala.proofs.Keeps.{Proper}
-use Rattle.pala.proofs.Demand.Healthy.{did-grown}
-use Rattle.pala.proofs.Demand.Runs.{call_at, effect_at, outcome-is, fresh-none, Moved, reached, at-moments, reached-same}
-use Rattle.pala.proofs.Demand.Changes.{new-place}
-use Rattle.pala.proofs.Demand.Casts.{cast-next, voter-cast}
+use Rattle.pala.proofs.Demand.Healthy.{did_grown}
+use Rattle.pala.proofs.Demand.Runs.{call_at, effect_at, outcome-is, fresh_none, Moved, reached, at_moments, reached-same}
+use Rattle.pala.proofs.Demand.Changes.{new_place}
+use Rattle.pala.proofs.Demand.Casts.{cast_next, voter_cast}
 
 -- a grown table's old blocks are the book's if they were
-grown-fits : {book : Book} {t u : List Block} (p : ℕ) → Grown t u → 1 ≤ p → p < size t → Fits book t p → Fits book u p
-grown-fits {book} {t} {u} p g pos h f =
+grown_fits : {book : Book} {t u : List Block} (p : ℕ) → Grown t u → 1 ≤ p → p < size t → Fits book t p → Fits book u p
+grown_fits {book} {t} {u} p g pos h f =
     record {
-      epoch = grown-epoch g p h ∙ f.epoch ∙ ap (λ x. (book x).epoch) (sym (g.name p h));
+      epoch = grown_epoch g p h ∙ f.epoch ∙ ap (λ x. (book x).epoch) (sym (g.name p h));
       parent =
-          ap (λ q. (at u q).name) (grown-parent g p h)
-          ∙ g.name (parent_of t p) (omega (arith, parent-below t p pos))
+          ap (λ q. (at u q).name) (grown_parent g p h)
+          ∙ g.name (parent_of t p) (omega (arith, parent_below t p pos))
           ∙ f.parent
           ∙ ap (λ x. (book x).parent) (sym (g.name p h));
     }
@@ -43,16 +43,16 @@ module _ (n : ℕ) (honest : ℕ → Bool) (run : Run) (some : 1 ≤ n) (most : 
     cast : (p j : ℕ) → Honest n honest j → Held t p → has_voter (at t p) j ≡ true → Cast n run m j (at t p).name
     fits : (p : ℕ) → Held t p → Fits book t p
 
-  good-later : (m : ℕ) (t : List Block) → Good m t → Good (suc m) t
-  good-later m t g = record { cast = λ p j hj h v. cast-next m (g.cast p j hj h v); fits = g.fits }
+  good_later : (m : ℕ) (t : List Block) → Good m t → Good (suc m) t
+  good_later m t g = record { cast = λ p j hj h v. cast_next m (g.cast p j hj h v); fits = g.fits }
 
   -- after a record taken at event m
-  good-took : (i : ℕ) → Honest n honest i → (m : ℕ) → Moved n run m i → Good m (rows (state_at n run m i)) → Good (suc m) (rows (effect_at n run m i))
+  good_took : (i : ℕ) → Honest n honest i → (m : ℕ) → Moved n run m i → Good m (rows (state_at n run m i)) → Good (suc m) (rows (effect_at n run m i))
   unfolding taken settled rows
-  good-took i hi m w g =
+  good_took i hi m w g =
       record {
-        cast = λ p j hj h. voter-cast proper (reached-same n i some most hi.0 run m).1 w p j (λ l v. g.cast p j hj (h.0, l) v) (heard j hj) h.1;
-        fits = λ p h. block p h (new-place proper w.did p h.1);
+        cast = λ p j hj h. voter_cast proper (reached-same n i some most hi.0 run m).1 w p j (λ l v. g.cast p j hj (h.0, l) v) (heard j hj) h.1;
+        fits = λ p h. block p h (new_place proper w.did p h.1);
       }
     where
       s : State
@@ -68,7 +68,7 @@ module _ (n : ℕ) (honest : ℕ → Bool) (run : Run) (some : 1 ≤ n) (most : 
       proper = (reached n i some most hi.0 run m).proper
 
       grown : Grown (rows s) (rows u)
-      grown = did-grown proper w.did
+      grown = did_grown proper w.did
 
       same : outcome_at n run m ≡ call_at n run m i
       same = outcome-is n run m i w.its
@@ -88,32 +88,32 @@ module _ (n : ℕ) (honest : ℕ → Bool) (run : Run) (some : 1 ≤ n) (most : 
 
       block : (p : ℕ) → Held (rows u) p → (p < size (rows s)) ⊎ (((is proposal_heard r ≡ true) ⊎ (is propose_now r ≡ true)) × (p ≡ u.count))
           → Fits book (rows u) p
-      block p h (inl l) = grown-fits p grown h.0 l (g.fits p (h.0, l))
+      block p h (inl l) = grown_fits p grown h.0 l (g.fits p (h.0, l))
       block p h (inr (kind, e)) =
           subst (Fits book (rows u)) (sym e)
           (subst (λ (x : State). Fits book (rows x) x.count) (ap (λ (o : Outcome). o.state) same ∙ w.settles) (told.block (kinds kind)))
 
   good : (m i : ℕ) → Honest n honest i → Good m (table_at n run m i)
   good m i hi =
-      at-moments n i some most hi.0 run Good
-      (record { cast = λ p j hj h v. absurd (fresh-none n i p h); fits = λ p h. absurd (fresh-none n i p h) })
-      good-later (good-took i hi) m
+      at_moments n i some most hi.0 run Good
+      (record { cast = λ p j hj h v. absurd (fresh_none n i p h); fits = λ p h. absurd (fresh_none n i p h) })
+      good_later (good_took i hi) m
 
   -- no vote is counted that wasn't cast, and one name stands for one block
-  pub cast-by-event : NoForgedVote n honest run
-  cast-by-event m i p j hi hj h v = (good m i hi).cast p j hj h v
+  pub cast_by_event : NoForgedVote n honest run
+  cast_by_event m i p j hi hj h v = (good m i hi).cast p j hj h v
 
-  pub fits-by-event : OneBlockOneName n honest run book
-  fits-by-event m i p hi h = (good m i hi).fits p h
+  pub fits_by_event : OneBlockOneName n honest run book
+  fits_by_event m i p hi h = (good m i hi).fits p h
 
 -- the event form gives the moment form
-pub by-event : EventForm
-by-event n honest run ep =
+pub by_event : EventForm
+by_event n honest run ep =
     record {
       some = ep.some;
       most = ep.most;
       few_faulty = ep.few_faulty;
-      cast = cast-by-event n honest run ep.some ep.most ep.book ep.each;
+      cast = cast_by_event n honest run ep.some ep.most ep.book ep.each;
       book = ep.book;
-      fits = fits-by-event n honest run ep.some ep.most ep.book ep.each;
+      fits = fits_by_event n honest run ep.some ep.most ep.book ep.each;
     }

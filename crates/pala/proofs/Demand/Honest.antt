@@ -17,18 +17,18 @@ use Rattle.pala.specs.Effects.{picked, effect}
 use Rattle.pala.specs.Rules.{epoch_at, parent_of, notarized}
 use Rattle.pala.specs.Steps.{settled}
 use Rattle.pala.specs.Safety.{Run, event_at, state_at, table_at, Honest, Cast, Held, Book, Premises}
-use Rattle.table.proofs.Laws.{pick_yes, pick_no, count_cut, same_refl, same_false, not-both}
-use Rattle.pala.proofs.Shapes.{block-voter}
-use Rattle.pala.proofs.Places.{parent-below}
+use Rattle.table.proofs.Laws.{pick_yes, pick_no, count_cut, same_refl, same_false, not_both}
+use Rattle.pala.proofs.Shapes.{block_voter}
+use Rattle.pala.proofs.Places.{parent_below}
 use Rattle.pala.proofs.Demand.Quorums.{overlap}
 use Rattle.pala.proofs.Demand.Chains.{Keeps}
-use Rattle.pala.proofs.Demand.Log.{Vote, In, Sane, sane-start}
+use Rattle.pala.proofs.Demand.Log.{Vote, In, Sane, sane_start}
 use Rattle.pala.proofs.Demand.Ancestors.{notarized-votes}
 use Rattle.pala.proofs.Demand.Freshest.{Kept}
-use Rattle.pala.proofs.Demand.Sound.{Sound, shaped-sound, not_root}
+use Rattle.pala.proofs.Demand.Sound.{Sound, shaped_sound, not_root}
 use Rattle.pala.proofs.Demand.Healthy.{Healthy}
-use Rattle.pala.proofs.Demand.Voting.{Logged, vote_at, Spoke, silent, spoke, did-spoke}
-use Rattle.pala.proofs.Demand.Casts.{cast-later, kind_at, happened-at, its-at, taken_at, name-at}
+use Rattle.pala.proofs.Demand.Voting.{Logged, vote_at, Spoke, silent, spoke, did_spoke}
+use Rattle.pala.proofs.Demand.Casts.{cast_later, kind_at, happened-at, its-at, taken_at, name-at}
 use Rattle.pala.proofs.Demand.Runs.{Next, stayed, moved, next, starts, fresh-epoch, reached, reached-same}
 use Rattle.pala.proofs.Demand.Names.{Faithful}
 
@@ -54,9 +54,9 @@ module _ (n : ℕ) (honest : ℕ → Bool) (run : Run) (pr : Premises n honest r
   pub nodes-same : (m i : ℕ) → Honest n honest i → (state_at n run m i).n ≡ n
   nodes-same m i hi = (reached-same n i pr.some pr.most hi.0 run m).0
 
-  pub table-sound : (m i : ℕ) → Honest n honest i → Sound n (table_at n run m i)
+  pub table_sound : (m i : ℕ) → Honest n honest i → Sound n (table_at n run m i)
   unfolding table_at
-  table-sound m i hi = subst (λ k. Sound k (rows (state_at n run m i))) (nodes-same m i hi) (shaped-sound (state_at n run m i) (healthy m i hi).proper)
+  table_sound m i hi = subst (λ k. Sound k (rows (state_at n run m i))) (nodes-same m i hi) (shaped_sound (state_at n run m i) (healthy m i hi).proper)
 
   pub table_kept : (m i : ℕ) → Honest n honest i → Kept n (table_at n run m i) (state_at n run m i).kept.0
   unfolding table_at
@@ -77,7 +77,7 @@ module _ (n : ℕ) (honest : ℕ → Bool) (run : Run) (pr : Premises n honest r
       t = table_at n run m i
 
       sound : Sound n t
-      sound = table-sound m i hi
+      sound = table_sound m i hi
 
       epochs : (p : ℕ) → p < size t → Dec (p ≡ 0) → epoch (at t p).name ≡ epoch_at t p
       epochs p h (yes z) =
@@ -123,7 +123,7 @@ module _ (n : ℕ) (honest : ℕ → Bool) (run : Run) (pr : Premises n honest r
         fits = l;
         all = λ x c.
             elim (dec_lt c.event m) [
-              | yes h ↦ r.all x (cast-later (suc m) m c h)
+              | yes h ↦ r.all x (cast_later (suc m) m c h)
               | no h ↦ absurd (never x c (omega (arith, c.before)))
             ];
       }
@@ -142,7 +142,7 @@ module _ (n : ℕ) (honest : ℕ → Bool) (run : Run) (pr : Premises n honest r
       f = faithful m i hi
 
       up : epoch (parent (at t p).name) ≡ epoch_at t (parent_of t p)
-      up = ap epoch (f.parents p pos h) ∙ f.epochs (parent_of t p) (omega (arith, parent-below t p pos))
+      up = ap epoch (f.parents p pos h) ∙ f.epochs (parent_of t p) (omega (arith, parent_below t p pos))
 
   recorded : (m i : ℕ) → Honest n honest i → Recorded m i
   unfolding fresh table_at
@@ -154,7 +154,7 @@ module _ (n : ℕ) (honest : ℕ → Bool) (run : Run) (pr : Premises n honest r
       }
     where
       started : Logged [] (fresh n i)
-      started = subst (Sane 0 [] 1 0 0) (sym (fresh-epoch n i pr.some pr.most hi.0)) sane-start
+      started = subst (Sane 0 [] 1 0 0) (sym (fresh-epoch n i pr.some pr.most hi.0)) sane_start
   recorded (suc m) i hi = go (recorded m i hi) (next n i pr.some pr.most hi.0 run m)
     where
       s : State
@@ -168,14 +168,14 @@ module _ (n : ℕ) (honest : ℕ → Bool) (run : Run) (pr : Premises n honest r
 
       told : (w : Recorded m i) → state_at n run (suc m) i ≡ settled (effect s r) → Spoke w.log s r (effect s r) → Recorded (suc m) i
       told w e (silent k l) =
-          quiet m i (λ x c z. not-both (kind_at c z) k) w (subst (Logged w.log) (sym e) l)
+          quiet m i (λ x c z. not_both (kind_at c z) k) w (subst (Logged w.log) (sym e) l)
       told w e (spoke k pos within l) =
           record {
             log = vote_at t (picked s) ∷ w.log;
             fits = subst (Logged (vote_at t (picked s) ∷ w.log)) (sym e) l;
             all = λ x c.
                 elim (dec_lt c.event m) [
-                  | yes h ↦ Memᴰ.tail (w.all x (cast-later (suc m) m c h))
+                  | yes h ↦ Memᴰ.tail (w.all x (cast_later (suc m) m c h))
                   | no h ↦
                       let z : c.event ≡ m = omega (arith, c.before) in
                       Memᴰ.head (sym (ap vote_for (name-at c z (healthy m i hi).proper)) ∙ book-vote m i hi (picked s) pos within)
@@ -184,14 +184,14 @@ module _ (n : ℕ) (honest : ℕ → Bool) (run : Run) (pr : Premises n honest r
 
       go : Recorded m i → Next n run m i → Recorded (suc m) i
       go w (stayed not_taken e) =
-          quiet m i (λ x c z. not-both (taken_at c z) (not_taken (happened-at c z) (its-at c z))) w (subst (Logged w.log) (sym e) w.fits)
-      go w (moved v) = told w v.later (did-spoke (healthy m i hi).proper w.fits v.did)
+          quiet m i (λ x c z. not_both (taken_at c z) (not_taken (happened-at c z) (its-at c z))) w (subst (Logged w.log) (sym e) w.fits)
+      go w (moved v) = told w v.later (did_spoke (healthy m i hi).proper w.fits v.did)
 
   -- a notarized name's voters are a quorum of the n
-  enough-voters : {x : List ℕ} (w : Notarized x)
+  enough_voters : {x : List ℕ} (w : Notarized x)
       → quorum n ≤ count n (λ j. has_voter (at (table_at n run w.moment w.by) w.place) j)
   unfolding votes
-  enough-voters w =
+  enough_voters w =
       subst (λ k. quorum n ≤ k) (count_cut most_nodes n (λ j. has_voter b j) pr.most others)
       (notarized-votes n t w.place w.held.0 w.enough)
     where
@@ -202,7 +202,7 @@ module _ (n : ℕ) (honest : ℕ → Bool) (run : Run) (pr : Premises n honest r
       b = at t w.place
 
       others : (j : ℕ) → n ≤ j → j < most_nodes → has_voter b j ≡ false
-      others = block-voter n t w.place ((table-sound w.moment w.by w.honestly).block w.place w.held.0 w.held.1)
+      others = block_voter n t w.place ((table_sound w.moment w.by w.honestly).block w.place w.held.0 w.held.1)
 
   -- a voter that an honest table shows had cast the vote
   voted : {x : List ℕ} (w : Notarized x) (j : ℕ) → Honest n honest j
@@ -215,9 +215,9 @@ module _ (n : ℕ) (honest : ℕ → Bool) (run : Run) (pr : Premises n honest r
       }
 
   -- a vote that was cast stands in the log of the whole run
-  in-log : {i : ℕ} {x : List ℕ} (hi : Honest n honest i) → VotedFor i x → In (vote_for x) (recorded (length run) i hi).log
-  in-log {i} {x} hi v =
-      (recorded (length run) i hi).all x (cast-later v.moment (length run) v.was v.was.happened)
+  in_log : {i : ℕ} {x : List ℕ} (hi : Honest n honest i) → VotedFor i x → In (vote_for x) (recorded (length run) i hi).log
+  in_log {i} {x} hi v =
+      (recorded (length run) i hi).all x (cast_later v.moment (length run) v.was v.was.happened)
 
   -- what the votes of honest gateways keep to
   pub keeps : Keeps no_name epoch parent 0 VotedFor Notarized
@@ -228,10 +228,10 @@ module _ (n : ℕ) (honest : ℕ → Bool) (run : Run) (pr : Premises n honest r
             let (j, below, f, g, h) =
             overlap n (λ j. has_voter (at (table_at n run a.moment a.by) a.place) j)
             (λ j. has_voter (at (table_at n run b.moment b.by) b.place) j) honest
-            (enough-voters a) (enough-voters b) pr.few_faulty in
+            (enough_voters a) (enough_voters b) pr.few_faulty in
             (j, voted a j (below, h) f, voted b j (below, h) g);
         once = λ {i} {x} {y} v w e.
-            (recorded (length run) i v.honestly).fits.once (in-log v.honestly v) (in-log v.honestly w) e;
+            (recorded (length run) i v.honestly).fits.once (in_log v.honestly v) (in_log v.honestly w) e;
         monotone = λ {i} {x} {y} v w l.
-            (recorded (length run) i v.honestly).fits.monotone (in-log v.honestly v) (in-log v.honestly w) l;
+            (recorded (length run) i v.honestly).fits.monotone (in_log v.honestly v) (in_log v.honestly w) l;
       }

@@ -34,8 +34,8 @@ module _ {X : Type 0} where
     pub barred : {x : Vote X} → In x log → x.epoch + k < local → x.parent_epoch ≤ bar
 
   -- a node starts sane: it has cast nothing
-  pub sane-start : {k : ℕ} → Sane k [] 1 0 0 0
-  sane-start =
+  pub sane_start : {k : ℕ} → Sane k [] 1 0 0 0
+  sane_start =
       record {
         once = λ m. absurd (Memᴰ.not-nil m);
         monotone = λ m. absurd (Memᴰ.not-nil m);
@@ -47,10 +47,10 @@ module _ {X : Type 0} where
 
   module _ {k : ℕ} {log : List (Vote X)} {local bar voted fresh : ℕ} (s : Sane k log local bar voted fresh) where
     -- the five steps keep it: a bar that is set anew is the freshest epoch
-    pub sane-settled : {local' fresh' : ℕ} → local ≤ local' → fresh ≤ fresh'
+    pub sane_settled : {local' fresh' : ℕ} → local ≤ local' → fresh ≤ fresh'
         → Sane k log local' (pick (ltb local local') fresh' bar) voted fresh'
     unfolding pick
-    sane-settled {local'} {fresh'} l f =
+    sane_settled {local'} {fresh'} l f =
         record {
           once = s.once;
           monotone = s.monotone;
@@ -77,40 +77,40 @@ module _ {X : Type 0} where
         cast-parent e = cc
 
         -- beside it any vote of the log is of an earlier epoch, and one more than k back has no parent fresher than the bar
-        cast-once : {x y : Vote X} → In x (v ∷ log) → In y (v ∷ log) → x.epoch ≡ y.epoch → x.name ≡ y.name
-        cast-once (Memᴰ.head d) (Memᴰ.head e) h = cc
-        cast-once (Memᴰ.head d) (Memᴰ.tail m) h = absurd (omega (arith, cast-epoch d, s.last m))
-        cast-once (Memᴰ.tail m) (Memᴰ.head e) h = absurd (omega (arith, cast-epoch e, s.last m))
-        cast-once (Memᴰ.tail l) (Memᴰ.tail m) h = s.once l m h
+        cast_once : {x y : Vote X} → In x (v ∷ log) → In y (v ∷ log) → x.epoch ≡ y.epoch → x.name ≡ y.name
+        cast_once (Memᴰ.head d) (Memᴰ.head e) h = cc
+        cast_once (Memᴰ.head d) (Memᴰ.tail m) h = absurd (omega (arith, cast-epoch d, s.last m))
+        cast_once (Memᴰ.tail m) (Memᴰ.head e) h = absurd (omega (arith, cast-epoch e, s.last m))
+        cast_once (Memᴰ.tail l) (Memᴰ.tail m) h = s.once l m h
 
-        cast-monotone : {x y : Vote X} → In x (v ∷ log) → In y (v ∷ log) → x.epoch + k < y.epoch → x.parent_epoch ≤ y.parent_epoch
-        cast-monotone (Memᴰ.head d) (Memᴰ.head e) h = absurd (omega (arith, cast-epoch d, cast-epoch e))
-        cast-monotone (Memᴰ.head d) (Memᴰ.tail m) h = absurd (omega (arith, cast-epoch d, s.last m))
-        cast-monotone (Memᴰ.tail m) (Memᴰ.head e) h =
+        cast_monotone : {x y : Vote X} → In x (v ∷ log) → In y (v ∷ log) → x.epoch + k < y.epoch → x.parent_epoch ≤ y.parent_epoch
+        cast_monotone (Memᴰ.head d) (Memᴰ.head e) h = absurd (omega (arith, cast-epoch d, cast-epoch e))
+        cast_monotone (Memᴰ.head d) (Memᴰ.tail m) h = absurd (omega (arith, cast-epoch d, s.last m))
+        cast_monotone (Memᴰ.tail m) (Memᴰ.head e) h =
             omega (arith, cast-parent e, s.barred m (omega (arith, cast-epoch e)))
-        cast-monotone (Memᴰ.tail l) (Memᴰ.tail m) h = s.monotone l m h
+        cast_monotone (Memᴰ.tail l) (Memᴰ.tail m) h = s.monotone l m h
 
         -- what holds of each vote of the log holds of it
         cast-last : {x : Vote X} → In x (v ∷ log) → x.epoch ≤ local
         cast-last (Memᴰ.head e) = omega (arith, cast-epoch e)
         cast-last (Memᴰ.tail m) = omega (arith, s.last m)
 
-        cast-known : {x : Vote X} → In x (v ∷ log) → x.parent_epoch ≤ fresh
-        cast-known (Memᴰ.head e) = omega (arith, cast-parent e)
-        cast-known (Memᴰ.tail m) = s.known m
+        cast_known : {x : Vote X} → In x (v ∷ log) → x.parent_epoch ≤ fresh
+        cast_known (Memᴰ.head e) = omega (arith, cast-parent e)
+        cast_known (Memᴰ.tail m) = s.known m
 
-        cast-barred : {x : Vote X} → In x (v ∷ log) → x.epoch + k < local → x.parent_epoch ≤ bar
-        cast-barred (Memᴰ.head e) h = absurd (omega (arith, cast-epoch e))
-        cast-barred (Memᴰ.tail m) h = s.barred m h
+        cast_barred : {x : Vote X} → In x (v ∷ log) → x.epoch + k < local → x.parent_epoch ≤ bar
+        cast_barred (Memᴰ.head e) h = absurd (omega (arith, cast-epoch e))
+        cast_barred (Memᴰ.tail m) h = s.barred m h
 
         -- casting such a vote keeps it
-        pub sane-cast : Sane k (v ∷ log) local bar local fresh
-        sane-cast =
+        pub sane_cast : Sane k (v ∷ log) local bar local fresh
+        sane_cast =
             record {
-              once = cast-once;
-              monotone = cast-monotone;
+              once = cast_once;
+              monotone = cast_monotone;
               last = cast-last;
               in_time = omega arith;
-              known = cast-known;
-              barred = cast-barred;
+              known = cast_known;
+              barred = cast_barred;
             }

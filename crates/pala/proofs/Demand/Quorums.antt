@@ -6,7 +6,7 @@ use native.Mathlib.Omega.{arith}
 use Rattle.table.specs.Scan.{pick, count}
 use Rattle.table.proofs.Laws.{count-some}
 use Rattle.pala.specs.Counts.{quorum}
-use Rattle.pala.proofs.Counts.{quorum-enough}
+use Rattle.pala.proofs.Counts.{quorum_enough}
 use Rattle.pala.proofs.Tests.{and_l, and_r}
 
 -- a number counts at most one
@@ -32,6 +32,6 @@ pub overlap : (n : ℕ) (f g h : ℕ → Bool)
     → quorum n ≤ count n f → quorum n ≤ count n g → 3 * count n (λ i. not (h i)) < n
     → (i : ℕ) × (i < n) × (f i ≡ true) × (g i ≡ true) × (h i ≡ true)
 overlap n f g h qf qg few =
-    let (i, below, e) = count-some n (λ i. f i && g i && h i) (omega (arith, shared n f g h, quorum-enough n)) in
+    let (i, below, e) = count-some n (λ i. f i && g i && h i) (omega (arith, shared n f g h, quorum_enough n)) in
     let both = and_l (f i && g i) (h i) e in
     (i, below, and_l (f i) (g i) both, and_r (f i) (g i) both, and_r (f i && g i) (h i) e)

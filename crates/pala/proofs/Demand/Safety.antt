@@ -15,14 +15,14 @@ use Rattle.pala.specs.Safety.{Run, state_at, table_at, Honest, Premises, shown_a
 use Rattle.pala.proofs.Demand.Chains as Chains
 use Rattle.pala.proofs.Tests.{or_l, or_r}
 use Rattle.pala.proofs.Grown.{rows_settled}
-use Rattle.pala.proofs.Demand.Chains.{Goes, On, in-line, chains-agree}
+use Rattle.pala.proofs.Demand.Chains.{Goes, On, in_line, chains_agree}
 use Rattle.pala.proofs.Demand.Freshest.{Kept, kept_in, candidate-kept}
-use Rattle.pala.proofs.Demand.Healthy.{Healthy, KeptBy, did-same, did-kept}
+use Rattle.pala.proofs.Demand.Healthy.{Healthy, KeptBy, did_same, did_kept}
 use Rattle.pala.proofs.Demand.Runs.{effect_at, Next, stayed, moved, next, starts}
-use Rattle.pala.proofs.Demand.Names.{chain-of, kept_of, on-place}
+use Rattle.pala.proofs.Demand.Names.{chain_of, kept_of, on_place}
 use Rattle.pala.proofs.Finals.{names_to}
 use Rattle.pala.proofs.Demand.Honest as Honestly
-use Rattle.pala.proofs.Demand.Honest.{healthy, nodes-same, table-sound, table_kept, faithful, Notarized, keeps}
+use Rattle.pala.proofs.Demand.Honest.{healthy, nodes-same, table_sound, table_kept, faithful, Notarized, keeps}
 
 -- lists of names joined
 pub joined-append : (a b : List (List ℕ)) → joined (a ++ b) ≡ joined a ++ joined b
@@ -34,16 +34,16 @@ pub joined-begins : (a b : List (List ℕ)) → Goes a b → Begins (joined a) (
 joined-begins a b (rest, e) = (joined rest, sym (ap joined e ∙ joined-append a rest))
 
 -- what is shown are the names to the kept block
-pub shown-names : (n : ℕ) (run : Run) (m i : ℕ) → shown_at n run m i ≡ joined (names_to (table_at n run m i) (state_at n run m i).kept.0)
+pub shown_names : (n : ℕ) (run : Run) (m i : ℕ) → shown_at n run m i ≡ joined (names_to (table_at n run m i) (state_at n run m i).kept.0)
 unfolding shown_at final_names table_at names_to
-shown-names n run m i = refl
+shown_names n run m i = refl
 
 -- the five steps tear nothing where the candidate and the kept block are in line
-settled-whole : (u : State) → u.torn ≡ false
+settled_whole : (u : State) → u.torn ≡ false
     → (descends (rows u) (candidate u.n (rows u)) u.kept.0 || descends (rows u) u.kept.0 (candidate u.n (rows u))) ≡ true
     → (settled u).torn ≡ false
 unfolding settled new_torn forward
-settled-whole u a b = neither u.torn _ a b
+settled_whole u a b = neither u.torn _ a b
   where
     neither : (a b : Bool) → a ≡ false → b ≡ true → (a || not b) ≡ false
     neither a b p q = cc
@@ -68,15 +68,15 @@ module _ (n : ℕ) (honest : ℕ → Bool) (run : Run) (pr : Premises n honest r
   final m i hi c k = kept_of epoch parent (faithful n honest run pr m i hi) (known m i hi) c k
 
   kept-held : (m i : ℕ) → Honest n honest i → (state_at n run m i).kept.0 < size (table_at n run m i)
-  kept-held m i hi = kept_in (table-sound n honest run pr m i hi).some (table_kept n honest run pr m i hi)
+  kept-held m i hi = kept_in (table_sound n honest run pr m i hi).some (table_kept n honest run pr m i hi)
 
   agree : (i j a b : ℕ) → Honest n honest i → Honest n honest j → OneBegins (shown_at n run a i) (shown_at n run b j)
   agree i j a b hi hj =
-      subst₂ OneBegins (sym (shown-names n run a i)) (sym (shown-names n run b j))
-      (go (chains-agree no_name epoch parent (keeps n honest run pr)
+      subst₂ OneBegins (sym (shown_names n run a i)) (sym (shown_names n run b j))
+      (go (chains_agree no_name epoch parent (keeps n honest run pr)
       (final a i hi (kept a i) (table_kept n honest run pr a i hi)) (final b j hj (kept b j) (table_kept n honest run pr b j hj))
-      (chain-of epoch parent (faithful n honest run pr a i hi) (kept a i) (kept-held a i hi))
-      (chain-of epoch parent (faithful n honest run pr b j hj) (kept b j) (kept-held b j hj))))
+      (chain_of epoch parent (faithful n honest run pr a i hi) (kept a i) (kept-held a i hi))
+      (chain_of epoch parent (faithful n honest run pr b j hj) (kept b j) (kept-held b j hj))))
     where
       kept : ℕ → ℕ → ℕ
       kept m k = (state_at n run m k).kept.0
@@ -89,32 +89,32 @@ module _ (n : ℕ) (honest : ℕ → Bool) (run : Run) (pr : Premises n honest r
       go (inr w) = inr (joined-begins (names b j) (names a i) w)
 
   -- two blocks of one table that may be kept are in line
-  table-in-line : (m i : ℕ) → Honest n honest i → (c k : ℕ) → Kept n (table_at n run m i) c → Kept n (table_at n run m i) k
+  table_in_line : (m i : ℕ) → Honest n honest i → (c k : ℕ) → Kept n (table_at n run m i) c → Kept n (table_at n run m i) k
       → (descends (table_at n run m i) c k || descends (table_at n run m i) k c) ≡ true
-  table-in-line m i hi c k wc wk =
-      go (in-line no_name epoch parent (keeps n honest run pr) (final m i hi c wc) (final m i hi k wk))
+  table_in_line m i hi c k wc wk =
+      go (in_line no_name epoch parent (keeps n honest run pr) (final m i hi c wc) (final m i hi k wk))
     where
       t : List Block
       t = table_at n run m i
 
       within : {p : ℕ} → Kept n t p → p < size t
-      within w = kept_in (table-sound n honest run pr m i hi).some w
+      within w = kept_in (table_sound n honest run pr m i hi).some w
 
       go : On no_name epoch parent (at t c).name (at t k).name
           ⊎ On no_name epoch parent (at t k).name (at t c).name
           → (descends t c k || descends t k c) ≡ true
       go (inl o) =
           or_r (descends t c k) (descends t k c)
-          (on-place epoch parent (faithful n honest run pr m i hi) k c (within wk) (within wc) o)
+          (on_place epoch parent (faithful n honest run pr m i hi) k c (within wk) (within wc) o)
       go (inr o) =
           or_l (descends t c k) (descends t k c)
-          (on-place epoch parent (faithful n honest run pr m i hi) c k (within wc) (within wk) o)
+          (on_place epoch parent (faithful n honest run pr m i hi) c k (within wc) (within wk) o)
 
   -- the candidate of an honest table and the block kept before are in line
-  candidate-in-line : (m i : ℕ) → Honest n honest i → (u : State) → KeptBy u → u.n ≡ n → table_at n run m i ≡ rows u
+  candidate_in_line : (m i : ℕ) → Honest n honest i → (u : State) → KeptBy u → u.n ≡ n → table_at n run m i ≡ rows u
       → (descends (rows u) (candidate u.n (rows u)) u.kept.0 || descends (rows u) u.kept.0 (candidate u.n (rows u))) ≡ true
-  candidate-in-line m i hi u w en et =
-      subst (λ t. Kept n t c → Kept n t k → (descends t c k || descends t k c) ≡ true) et (table-in-line m i hi c k)
+  candidate_in_line m i hi u w en et =
+      subst (λ t. Kept n t c → Kept n t k → (descends t c k || descends t k c) ≡ true) et (table_in_line m i hi c k)
       (subst (λ x. Kept x (rows u) c) en (candidate-kept u.n (rows u)))
       (subst (λ x. Kept x (rows u) k) en w)
     where
@@ -139,12 +139,12 @@ module _ (n : ℕ) (honest : ℕ → Bool) (run : Run) (pr : Premises n honest r
       go w (stayed _ e) = ap (λ (x : State). x.torn) e ∙ w
       go w (moved v) =
           ap (λ (x : State). x.torn) v.later
-          ∙ settled-whole u ((did-same v.did).2 ∙ w)
-          (candidate-in-line (suc m) i hi u (did-kept h v.did)
-          ((did-same v.did).0 ∙ nodes-same n honest run pr m i hi) (ap rows v.later ∙ rows_settled u))
+          ∙ settled_whole u ((did_same v.did).2 ∙ w)
+          (candidate_in_line (suc m) i hi u (did_kept h v.did)
+          ((did_same v.did).0 ∙ nodes-same n honest run pr m i hi) (ap rows v.later ∙ rows_settled u))
 
 pub safe : Safe
 safe n honest run pr i j a b hi hj = agree n honest run pr i j a b hi hj
 
-pub never-torn : NeverTorn
-never-torn n honest run pr m i hi = whole n honest run pr m i hi
+pub never_torn : NeverTorn
+never_torn n honest run pr m i hi = whole n honest run pr m i hi

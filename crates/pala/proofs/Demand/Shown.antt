@@ -29,16 +29,16 @@ use Rattle.pala.proofs.Sent.{at-sized}
 use Rattle.pala.proofs.Calls.{any_lent}
 use Rattle.pala.proofs.Demand.Ancestors.{climb}
 use Rattle.pala.proofs.Demand.Runs.{reached}
-use Rattle.pala.proofs.Finals.{names_to, finals-are, names-zero, names-up, names-le}
+use Rattle.pala.proofs.Finals.{names_to, finals_are, names_zero, names_up, names_le}
 use Rattle.pala.proofs.Demand.Safety.{joined-append, safe}
 
 -- the names to a place are 32 bytes each
-pub names-long : (t : List Block) → ((p : ℕ) → RowSized (at t p)) → (p : ℕ) → length (joined (names_to t p)) ≡ name_bytes * length (names_to t p)
+pub names_long : (t : List Block) → ((p : ℕ) → RowSized (at t p)) → (p : ℕ) → length (joined (names_to t p)) ≡ name_bytes * length (names_to t p)
 unfolding joined
-names-long t sized = climb t (λ p. length (joined (names_to t p)) ≡ name_bytes * length (names_to t p)) base step
+names_long t sized = climb t (λ p. length (joined (names_to t p)) ≡ name_bytes * length (names_to t p)) base step
   where
     base : length (joined (names_to t 0)) ≡ name_bytes * length (names_to t 0)
-    base = ap (λ l. length (joined l)) (names-zero t) ∙ sym (ap (λ l. name_bytes * length l) (names-zero t))
+    base = ap (λ l. length (joined l)) (names_zero t) ∙ sym (ap (λ l. name_bytes * length l) (names_zero t))
 
     step : (p : ℕ) → 0 < p
         → length (joined (names_to t (parent_of t p))) ≡ name_bytes * length (names_to t (parent_of t p))
@@ -46,9 +46,9 @@ names-long t sized = climb t (λ p. length (joined (names_to t p)) ≡ name_byte
     step p pos ih =
         omega (
           arith,
-          ap length (names-up t p pos),
+          ap length (names_up t p pos),
           length-append up ((at t p).name ∷ []),
-          ap (λ l. length (joined l)) (names-up t p pos),
+          ap (λ l. length (joined l)) (names_up t p pos),
           ap length (joined-append up ((at t p).name ∷ [])),
           length-append (joined up) ((at t p).name ++ []),
           length-append (at t p).name [],
@@ -68,41 +68,41 @@ cut true l rest x e = inl (take_at (joined l) rest (name_bytes * length l) e)
 cut false l rest x e = inr refl
 
 -- a state's final names are 32 bytes each
-finals-long : (s : State) → Proper s → length (joined (final_names s)) ≡ name_bytes * length (final_names s)
-finals-long s k =
-    subst (λ l. length (joined l) ≡ name_bytes * length l) (sym (finals-are s)) (names-long (rows s) (at-sized s k) s.kept.0)
+finals_long : (s : State) → Proper s → length (joined (final_names s)) ≡ name_bytes * length (final_names s)
+finals_long s k =
+    subst (λ l. length (joined l) ≡ name_bytes * length l) (sym (finals_are s)) (names_long (rows s) (at-sized s k) s.kept.0)
 
 -- what the final-list function writes: the final names, or nothing
 written_is : (s : State) → Proper s → (x : List ℕ) → (written (final_list s x) ≡ joined (final_names s)) ⊎ (written (final_list s x) ≡ [])
 unfolding final_list listed
 written_is s k x =
-    cut (taken (list_answer s x)) (final_names s) (drop (name_bytes * length (final_names s)) x) x (finals-long s k)
+    cut (taken (list_answer s x)) (final_names s) (drop (name_bytes * length (final_names s)) x) x (finals_long s k)
 
-counted-few : (s : State) → Proper s → (x : List ℕ) → (final_list s x).count ≤ capacity
+counted_few : (s : State) → Proper s → (x : List ℕ) → (final_list s x).count ≤ capacity
 unfolding final_list listed pick
-counted-few s k x = go (taken (list_answer s x))
+counted_few s k x = go (taken (list_answer s x))
   where
     go : (b : Bool) → pick b (length (final_names s)) 0 ≤ capacity
     go true =
         omega (
           arith,
-          ap length (finals-are s),
-          names-le (rows s) s.kept.0,
+          ap length (finals_are s),
+          names_le (rows s) s.kept.0,
           shaped-kept s k.shaped,
           shaped-count s k.shaped,
         )
     go false = omega arith
 
 -- lists that are the shown ones, or empty, begin one another where the shown ones do
-or-empty : {a b x y : List ℕ} → OneBegins a b → (x ≡ a) ⊎ (x ≡ []) → (y ≡ b) ⊎ (y ≡ []) → OneBegins x y
-or-empty {y = y} o (inr e) f = inl (y, ap (λ l. l ++ y) e)
-or-empty {x = x} o (inl e) (inr f) = inr (x, ap (λ l. l ++ x) f)
-or-empty o (inl e) (inl f) = subst₂ OneBegins (sym e) (sym f) o
+or_empty : {a b x y : List ℕ} → OneBegins a b → (x ≡ a) ⊎ (x ≡ []) → (y ≡ b) ⊎ (y ≡ []) → OneBegins x y
+or_empty {y = y} o (inr e) f = inl (y, ap (λ l. l ++ y) e)
+or_empty {x = x} o (inl e) (inr f) = inr (x, ap (λ l. l ++ x) f)
+or_empty o (inl e) (inl f) = subst₂ OneBegins (sym e) (sym f) o
 
-pub safe-lists : SafeLists
+pub safe_lists : SafeLists
 unfolding shown_at
-safe-lists n honest run pr i j a b hi hj x y =
-    or-empty (safe n honest run pr i j a b hi hj)
+safe_lists n honest run pr i j a b hi hj x y =
+    or_empty (safe n honest run pr i j a b hi hj)
     (written_is (state_at n run a i) (reached n i pr.some pr.most hi.0 run a).proper x)
     (written_is (state_at n run b j) (reached n j pr.some pr.most hj.0 run b).proper y)
 
@@ -154,7 +154,7 @@ unfolding run ran run_code
 ran-is n i slice x s k e =
     subst (λ u. (of u ≡ joined (final_names s)) ⊎ (of u ≡ [])) e
     (code-written (taken a) (number a) (final_list s x).count (final_list s x).list x (joined (final_names s))
-    (omega (arith, counted-few s k x)) (written_is s k x))
+    (omega (arith, counted_few s k x)) (written_is s k x))
   where
     a : Answer
     a = run_answer n i slice x
@@ -169,16 +169,16 @@ ran-shown : (n i m : ℕ) (events : Run) → 1 ≤ n → n ≤ most_nodes → i 
 ran-shown n i m events some most below slice w x =
     ran-is n i slice x (state_at n events m i) (reached n i some most below events m).proper (state-played n events m i slice w)
 
-pub safe-runs : SafeRuns
+pub safe_runs : SafeRuns
 unfolding shown_at
-safe-runs n honest events pr i j a b hi hj p q wp wq x y =
-    or-empty (safe n honest events pr i j a b hi hj)
+safe_runs n honest events pr i j a b hi hj p q wp wq x y =
+    or_empty (safe n honest events pr i j a b hi hj)
     (ran-shown n i a events pr.some pr.most hi.0 p wp x)
     (ran-shown n j b events pr.some pr.most hj.0 q wq y)
 
 -- a run of a gateway writes whole names
-pub runs-whole : (n i m : ℕ) (events : Run) → 1 ≤ n → n ≤ most_nodes → i < n → (slice : List ℕ) → PlayedBy events m i slice → (x : List ℕ)
+pub runs_whole : (n i m : ℕ) (events : Run) → 1 ≤ n → n ≤ most_nodes → i < n → (slice : List ℕ) → PlayedBy events m i slice → (x : List ℕ)
     → length (ran_written (run n i slice x)) % name_bytes ≡ 0
-runs-whole n i m events some most below slice w x =
-    ⊎_elim (λ e. omega (arith, ap length e, finals-long (state_at n events m i) (reached n i some most below events m).proper))
+runs_whole n i m events some most below slice w x =
+    ⊎_elim (λ e. omega (arith, ap length e, finals_long (state_at n events m i) (reached n i some most below events m).proper))
     (λ e. ap (λ l. length l % name_bytes) e) (ran-shown n i m events some most below slice w x)

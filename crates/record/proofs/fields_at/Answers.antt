@@ -1,7 +1,7 @@
 -- The fields of a record, each as it was read. Assumes nothing.
 use Prim.Native.Nat.{ℕ}
 use Rattle.pala.specs.Record.{name_of, parent_name_of, payload_of, uses_epoch, uses_name, uses_parent, uses_payload}
-use Rattle.record.proofs.Laws.{clean_is, fields-same, used-or-zero}
+use Rattle.record.proofs.Laws.{clean_is, fields-same, used_or_zero}
 use Rattle.record.specs.Fields.{fields_of}
 use Rattle.table.proofs.Laws.{pick_yes, pick_no}
 use Rattle.table.specs.declared.Epoch.{Epoch}
@@ -27,8 +27,8 @@ returns c =
     let clean =
     clean_is r _ _ _ _ _ held (ap (λ (e : Epoch). e.0) epoch)
     (c.uses_epoch.ensures ∙ ap (λ (k : ℕ). uses_epoch (k ∷ [])) kind)
-    (used-or-zero uses_name r _ (name_of r) _ _ _ c.name_fits.ensures c.uses_name.ensures kind name)
-    (used-or-zero uses_parent r _ (parent_name_of r) _ _ _ c.name_fits-2.ensures c.uses_parent.ensures kind parent)
-    (used-or-zero uses_payload r _ (payload_of r) _ _ _ c.payload_fits.ensures c.uses_payload.ensures kind payload) in
+    (used_or_zero uses_name r _ (name_of r) _ _ _ c.name_fits.ensures c.uses_name.ensures kind name)
+    (used_or_zero uses_parent r _ (parent_name_of r) _ _ _ c.name_fits-2.ensures c.uses_parent.ensures kind parent)
+    (used_or_zero uses_payload r _ (payload_of r) _ _ _ c.payload_fits.ensures c.uses_payload.ensures kind payload) in
     fields-same _ (fields_of r) name parent payload epoch (ap (λ (k : ℕ). record { 0 = k }) sender) kind clean
     ∙ sym (pick_yes _ _ _ (eq-eqb _ _ held))

@@ -21,8 +21,8 @@ write-all-requires c κs = search rules
 returns-2 : tie.Need-returns-2
 returns-2 c = search rules
 
-pub print-spec : {M : Type 1} → statement M
-print-spec =
+pub print_spec : {M : Type 1} → statement M
+print_spec =
     tie.close
     (tie.spec
     returns

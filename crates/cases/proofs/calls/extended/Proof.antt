@@ -29,8 +29,8 @@ loop-again c = search rules
 returns : tie.Need-returns invariant-loop decreases-loop
 returns c = tt
 
-pub extended-spec : {M : Type 1} → statement M
-extended-spec =
+pub extended_spec : {M : Type 1} → statement M
+extended_spec =
     tie.close
     (tie.spec
     invariant-loop

@@ -26,7 +26,7 @@ loop-again c = tt
 returns : tie.Need-returns invariant-loop decreases-loop
 returns c = tt
 
-pub throughout-spec : {M : Type 1} → statement M
-throughout-spec =
+pub throughout_spec : {M : Type 1} → statement M
+throughout_spec =
     tie.close
     (tie.spec invariant-loop decreases-loop loop-holds shared-slice-read-all add-i loop-less loop-again returns)

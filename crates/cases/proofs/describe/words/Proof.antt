@@ -32,8 +32,8 @@ loop-again c = tt
 returns : tie.Need-returns invariant-loop decreases-loop
 returns c = tt
 
-pub words-spec : {M : Type 1} → statement M
-words-spec =
+pub words_spec : {M : Type 1} → statement M
+words_spec =
     tie.close
     (tie.spec
     invariant-loop

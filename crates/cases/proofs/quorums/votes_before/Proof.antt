@@ -38,8 +38,8 @@ loop-again c = tt
 returns : tie.Need-returns invariant-loop decreases-loop
 returns c = tt
 
-pub votes-before-spec : {M : Type 1} → statement M
-votes-before-spec =
+pub votes-before_spec : {M : Type 1} → statement M
+votes-before_spec =
     tie.close
     (tie.spec
     invariant-loop

@@ -29,8 +29,8 @@ loop-again c = search rules
 returns : tie.Need-returns invariant-loop decreases-loop
 returns c = tt
 
-pub record-of-spec : {M : Type 1} → statement M
-record-of-spec =
+pub record_of_spec : {M : Type 1} → statement M
+record_of_spec =
     tie.close
     (tie.spec
     invariant-loop

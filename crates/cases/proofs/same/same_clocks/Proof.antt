@@ -38,8 +38,8 @@ loop-again c = tt
 returns : tie.Need-returns invariant-loop decreases-loop
 returns c = tt
 
-pub same-clocks-spec : {M : Type 1} → statement M
-same-clocks-spec =
+pub same_clocks_spec : {M : Type 1} → statement M
+same_clocks_spec =
     tie.close
     (tie.spec
     invariant-loop

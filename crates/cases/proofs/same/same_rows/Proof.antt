@@ -41,8 +41,8 @@ loop-again c = tt
 returns : tie.Need-returns invariant-loop decreases-loop
 returns c = tt
 
-pub same-rows-spec : {M : Type 1} → statement M
-same-rows-spec =
+pub same-rows_spec : {M : Type 1} → statement M
+same-rows_spec =
     tie.close
     (tie.spec
     invariant-loop

@@ -32,8 +32,8 @@ loop-again c = tt
 returns : tie.Need-returns invariant-loop decreases-loop
 returns c = tt
 
-pub same-voters-spec : {M : Type 1} → statement M
-same-voters-spec =
+pub same_voters_spec : {M : Type 1} → statement M
+same_voters_spec =
     tie.close
     (tie.spec
     invariant-loop

@@ -35,8 +35,8 @@ returns c = tt
 returns-2 : tie.Need-returns-2 invariant-loop decreases-loop
 returns-2 c = tt
 
-pub across-spec : {M : Type 1} → statement M
-across-spec =
+pub across_spec : {M : Type 1} → statement M
+across_spec =
     tie.close
     (tie.spec
     invariant-loop

@@ -32,8 +32,8 @@ returns c = tt
 returns-2 : tie.Need-returns-2 invariant-loop decreases-loop
 returns-2 c = tt
 
-pub swept-spec : {M : Type 1} → statement M
-swept-spec =
+pub swept_spec : {M : Type 1} → statement M
+swept_spec =
     tie.close
     (tie.spec
     invariant-loop

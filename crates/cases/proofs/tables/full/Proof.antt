@@ -32,8 +32,8 @@ loop-again c = tt
 returns : tie.Need-returns invariant-loop decreases-loop
 returns c = tt
 
-pub full-spec : {M : Type 1} → statement M
-full-spec =
+pub full_spec : {M : Type 1} → statement M
+full_spec =
     tie.close
     (tie.spec
     invariant-loop

@@ -47,8 +47,8 @@ loop-again c = tt
 returns : tie.Need-returns invariant-loop decreases-loop
 returns c = tt
 
-pub final-names-spec : {M : Type 1} → statement M
-final-names-spec =
+pub final_names_spec : {M : Type 1} → statement M
+final_names_spec =
     tie.close
     (tie.spec
     invariant-loop

@@ -1,7 +1,7 @@
 -- Each record is decided on the newest state, and a taken one makes the next; what is left of the records gives the rest.
 use Rattle.node.proofs.Calls.{decided-same}
-use Rattle.pala.proofs.Playing.{Playable, step-playable}
-use Rattle.pala.proofs.Stretches.{part, played-next, played-end}
+use Rattle.pala.proofs.Playing.{Playable, step_playable}
+use Rattle.pala.proofs.Stretches.{part, played_next, played_end}
 use Rattle.pala.specs.Run.{lent}
 use Rattle.pala.specs.Step.{step}
 use borrow.Author.Rules.{rules}
@@ -39,13 +39,13 @@ pub loop-from-preserved : goal.loop-from-preserved
 loop-from-preserved c =
     let l = c.loop-from in
     let on = next (goal.at.loop-from-preserved c).Joined-is_taken in (
-      subst Playable (sym on) (step-playable _ _ _ l.invariant.0),
+      subst Playable (sym on) (step_playable _ _ _ l.invariant.0),
       l.invariant.1,
       omega arith,
       omega arith,
-      played-next c.args.records.now l.from l.t c.if-is_taken.t (omega arith) on ∙ l.invariant.4,
+      played_next c.args.records.now l.from l.t c.if-is_taken.t (omega arith) on ∙ l.invariant.4,
     )
 
 pub returns : goal.returns
 returns c =
-    (played-end _ _ _ c.loop-from-test.false ∙ c.loop-from.invariant.4, c.loop-from.invariant.0.shaped)
+    (played_end _ _ _ c.loop-from-test.false ∙ c.loop-from.invariant.4, c.loop-from.invariant.0.shaped)

@@ -1,5 +1,5 @@
 -- The refusals in their order; then the start, the records and the final list.
-use Rattle.gateway.proofs.Answered.{run-broken, run_small, run-setup, run-taken}
+use Rattle.gateway.proofs.Answered.{run-broken, run_small, run_setup, run-taken}
 use Rattle.pala.proofs.Calls.{start-shaped}
 use Rattle.pala.specs.Lists.{Listed, final_list}
 use Rattle.pala.specs.Run.{Ran, played, stretches}
@@ -17,7 +17,7 @@ pub returns-then-list-lt-FULL_LIST : goal.returns-then-list-lt-FULL_LIST
 returns-then-list-lt-FULL_LIST c = sym (run_small c.args.n c.args.own c.args.records.now c.args.list.now c.if-list-lt-FULL_LIST.true)
 
 pub returns-then-not-nodes : goal.returns-then-not-nodes
-returns-then-not-nodes c = sym (run-setup c.args.n c.args.own c.args.records.now c.args.list.now c.if-records-ne0.false c.if-list-lt-FULL_LIST.false (sym c.nodes.ensures ∙ c.if-not-nodes.true))
+returns-then-not-nodes c = sym (run_setup c.args.n c.args.own c.args.records.now c.args.list.now c.if-records-ne0.false c.if-list-lt-FULL_LIST.false (sym c.nodes.ensures ∙ c.if-not-nodes.true))
 
 pub play-requires : goal.play-requires
 play-requires c = (

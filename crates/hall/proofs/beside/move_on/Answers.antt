@@ -2,7 +2,7 @@
 use Prim.Native.Nat.{ℕ}
 use Rattle.accord.specs.Rulings.{seated}
 use Rattle.accord.specs.declared.Hall.{Hall}
-use Rattle.hall.proofs.Moved.{seat-most, moved-shaped, place-low, place-most, book-entered, book-kept, move-still, listed-anew, move-listed}
+use Rattle.hall.proofs.Moved.{seat_most, moved_shaped, place_low, place_most, book_entered, book-kept, move_still, listed_anew, move_listed}
 use Rattle.hall.specs.Book.{Pages}
 use Rattle.hall.specs.Play.{Moving}
 use lib.ListN.{length}
@@ -21,7 +21,7 @@ paged :
 paged c {h} {r} m =
     let place = c.touched_by-p.ensures in
     elim c.if-p-gt0.branch [
-      | then-p-gt0 w ↦ subst (Pages (seated h c.args.i c.args.s)) (sym (w.book-is ∙ w.enter_place.ensures)) (book-entered m place w.if-p-gt0.true)
+      | then-p-gt0 w ↦ subst (Pages (seated h c.args.i c.args.s)) (sym (w.book-is ∙ w.enter_place.ensures)) (book_entered m place w.if-p-gt0.true)
       | else-p-gt0 w ↦ subst (Pages (seated h c.args.i c.args.s)) (sym w.book-is) (book-kept m place w.if-p-gt0.false)
     ]
 
@@ -31,31 +31,31 @@ same-book c = let m = c.requires.1.1 in (paged c m).long ∙ sym m.live.pages.lo
 pub enter_place-requires : goal.enter_place-requires
 enter_place-requires c =
     let m = c.requires.1.1 in
-    (m.live.pages.long, seat-most m, c.if-p-gt0.true, place-low m c.touched_by-p.ensures, place-most m c.touched_by-p.ensures)
+    (m.live.pages.long, seat_most m, c.if-p-gt0.true, place_low m c.touched_by-p.ensures, place_most m c.touched_by-p.ensures)
 
 pub shape_of-book-then-s-kept : goal.shape_of-book-then-s-kept
 shape_of-book-then-s-kept c = same-book (goal.at.shape_of-book-then-s-kept c).Joined-p-gt0
 
 pub returns-then-s-kept : goal.returns-then-s-kept
-returns-then-s-kept c h r m = move-still m (paged (goal.at.returns-then-s-kept c).Joined-p-gt0 m) c.if-s-kept.true
+returns-then-s-kept c h r m = move_still m (paged (goal.at.returns-then-s-kept c).Joined-p-gt0 m) c.if-s-kept.true
 
 pub list-count-requires : goal.list-count-requires
-list-count-requires c = let m = c.requires.1.1 in (m.live.listed.fit.long, seat-most m, moved-shaped m)
+list-count-requires c = let m = c.requires.1.1 in (m.live.listed.fit.long, seat_most m, moved_shaped m)
 
 pub offset_bounds-counts-i : goal.offset_bounds-counts-i
-offset_bounds-counts-i c = record { fits = omega (arith, seat-most (c.requires.1.1)) }
+offset_bounds-counts-i c = record { fits = omega (arith, seat_most (c.requires.1.1)) }
 
 pub bounds-counts-i : goal.bounds-counts-i
-bounds-counts-i c = seat-most (c.requires.1.1)
+bounds-counts-i c = seat_most (c.requires.1.1)
 
 pub agree-word-requires : goal.agree-word-requires
 agree-word-requires c =
     let m = c.requires.1.1 in
-    (listed-anew m c.list-count.ensures).fit
+    (listed_anew m c.list-count.ensures).fit
 
 pub shape_of-book : goal.shape_of-book
 shape_of-book c = same-book (goal.at.shape_of-book c).Joined-p-gt0
 
 pub returns : goal.returns
 returns c h r m =
-    move-listed m c.list-count.ensures (paged (goal.at.returns c).Joined-p-gt0 m) c.agree-word.ensures
+    move_listed m c.list-count.ensures (paged (goal.at.returns c).Joined-p-gt0 m) c.agree-word.ensures

@@ -1,5 +1,5 @@
 -- Two stretches are the same: as long, and no byte passed differs. The measure is what is left of them. Assumes nothing.
-use Rattle.table.proofs.Laws.{same-all, same_differs, same_false}
+use Rattle.table.proofs.Laws.{same_all, same_differs, same_false}
 use borrow.Author.Count.{below_more}
 use lib.ListN.{length}
 use mathlib.Core.Path.{refl, sym, ap}
@@ -21,4 +21,4 @@ loop-k-preserved c = (c.loop-k.invariant.0, omega arith, below_more _ _ c.loop-k
 pub returns : goal.returns
 returns c =
     let l = c.loop-k in
-    sym (same-all _ _ _ l.invariant.0 refl (λ i m. l.invariant.2 i (omega arith)))
+    sym (same_all _ _ _ l.invariant.0 refl (λ i m. l.invariant.2 i (omega arith)))

@@ -1,7 +1,7 @@
 -- A gateway shows its own vote: none of the rows passed does. The measure is what is left of them. Assumes nothing.
 use Prim.Native.Nat.{ℕ, ◌+◌, ◌*◌}
 use Rattle.accord.specs.Rulings.{any_below}
-use Rattle.hall.proofs.Rows.{any-more, any-yes, part-row}
+use Rattle.hall.proofs.Rows.{any_more, any_yes, part_row}
 use Rattle.hall.specs.Book.{row_shows, shown_in}
 use Rattle.table.specs.Rows.{capacity}
 use lib.ListN.{length-take, length-drop}
@@ -13,12 +13,12 @@ use Rattle.hall.proofs.book.shown.Goals.{After-row_shows}
 use Rattle.hall.proofs.book.shown.Invariants.{ok}
 
 -- what is asked of the row of a turn
-this-row : (c : After-row_shows)
+this_row : (c : After-row_shows)
     → let a = c.args in
     c.row_shows.result ≡ ok a.book.now a.i a.name c.loop-k.k
-this-row c =
+this_row c =
     let a = c.args in
-    c.row_shows.ensures ∙ ap (λ (r : List ℕ). row_shows r a.name) (part-row a.book.now (capacity * a.i + c.loop-k.k))
+    c.row_shows.ensures ∙ ap (λ (r : List ℕ). row_shows r a.name) (part_row a.book.now (capacity * a.i + c.loop-k.k))
 
 pub loop-k-init : goal.loop-k-init
 unfolding any_below
@@ -31,12 +31,12 @@ pub returns-then-row_shows : goal.returns-then-row_shows
 unfolding shown_in
 returns-then-row_shows c =
     let a = c.args in
-    sym (any-yes capacity c.loop-k.k (ok a.book.now a.i a.name) c.loop-k-test.true (sym (this-row (goal.at.returns-then-row_shows c).After-row_shows) ∙ c.if-row_shows.true))
+    sym (any_yes capacity c.loop-k.k (ok a.book.now a.i a.name) c.loop-k-test.true (sym (this_row (goal.at.returns-then-row_shows c).After-row_shows) ∙ c.if-row_shows.true))
 
 pub loop-k-preserved : goal.loop-k-preserved
 loop-k-preserved c =
     let a = c.args in
-    (omega arith, any-more c.loop-k.k (ok a.book.now a.i a.name) c.loop-k.invariant.1 (sym (this-row (goal.at.loop-k-preserved c).After-row_shows) ∙ c.if-row_shows.false))
+    (omega arith, any_more c.loop-k.k (ok a.book.now a.i a.name) c.loop-k.invariant.1 (sym (this_row (goal.at.loop-k-preserved c).After-row_shows) ∙ c.if-row_shows.false))
 
 pub returns : goal.returns
 unfolding shown_in

@@ -1,7 +1,7 @@
 -- Every honest list and those before it: so far of any two one begins the other. The measure is what is left of them. Assumes nothing.
 use Prim.Native.Nat.{ℕ, zero-le}
 use Rattle.accord.specs.Head.{most_gateways}
-use Rattle.hall.proofs.Agreeing.{begun-none}
+use Rattle.hall.proofs.Agreeing.{begun_none}
 use Rattle.hall.proofs.Parts.{below_fails, below_next}
 use Rattle.hall.specs.Lists.{agree_in}
 use Rattle.table.specs.Scan.{all_below}
@@ -30,7 +30,7 @@ loop-i-preserved c =
     let a = c.args in
     let i = c.loop-i.i in
     let here : ok a.lists.now a.counts a.honest i ≡ true =
-    elim c.if-honest-i.branch [ then-honest-i+else-not-agrees_before w ↦ sym w.agrees_before.ensures ∙ w.if-not-agrees_before.false | else-honest-i w ↦ begun-none a.lists.now a.counts a.honest i w.if-honest-i.false ] in
+    elim c.if-honest-i.branch [ then-honest-i+else-not-agrees_before w ↦ sym w.agrees_before.ensures ∙ w.if-not-agrees_before.false | else-honest-i w ↦ begun_none a.lists.now a.counts a.honest i w.if-honest-i.false ] in
     (omega arith, below_next i (ok a.lists.now a.counts a.honest) c.loop-i.invariant.1 here)
 
 pub returns : goal.returns

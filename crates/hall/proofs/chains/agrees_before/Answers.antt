@@ -1,6 +1,6 @@
 -- An honest list and each honest one before it: so far of any two one begins the other. The measure is what is left of them. Assumes nothing.
 use Prim.Native.Nat.{ℕ, ◌+◌, ◌*◌, ◌≤◌, zero-le}
-use Rattle.hall.proofs.Agreeing.{begun-not, begun-read}
+use Rattle.hall.proofs.Agreeing.{begun-not, begun_read}
 use Rattle.hall.proofs.Parts.{below_fails, below_next}
 use Rattle.hall.specs.Lists.{begun, lists_bytes}
 use Rattle.pala.specs.Run.{full_list}
@@ -15,22 +15,22 @@ use Rattle.hall.proofs.chains.agrees_before.Goals.{After-names_bytes, After-name
 
 -- the list lies in its room
 module _ (c : After-names_bytes) where
-  first-most : c.names_bytes.result ≤ full_list
-  first-most =
+  first_most : c.names_bytes.result ≤ full_list
+  first_most =
       omega (arith, c.names_bytes.ensures, c.requires.0.most c.args.i c.requires.1)
 
   room : full_list * c.args.i + full_list ≤ lists_bytes
   room = omega (arith, c.requires.1)
 
-second-most : (c : After-names_bytes-then-honest-j) → c.names_bytes-then-honest-j.result ≤ full_list
-second-most c =
+second_most : (c : After-names_bytes-then-honest-j) → c.names_bytes-then-honest-j.result ≤ full_list
+second_most c =
     omega (arith, c.names_bytes-then-honest-j.ensures, c.requires.0.most c.loop-j.j (omega (arith, c.requires.1)))
 
 pub names_bytes-requires : goal.names_bytes-requires
 names_bytes-requires c = c.requires.0.most c.args.i c.requires.1
 
 pub overflow_add-to : goal.overflow_add-to
-overflow_add-to c = omega (arith, first-most (goal.at.overflow_add-to c).After-names_bytes, room (goal.at.overflow_add-to c).After-names_bytes)
+overflow_add-to c = omega (arith, first_most (goal.at.overflow_add-to c).After-names_bytes, room (goal.at.overflow_add-to c).After-names_bytes)
 
 pub loop-j-init : goal.loop-j-init
 unfolding all_below
@@ -53,20 +53,20 @@ names_bytes-requires-then-honest-j c =
     c.requires.0.most c.loop-j.j (omega (arith, c.requires.1))
 
 pub overflow_add-end : goal.overflow_add-end
-overflow_add-end c = omega (arith, second-most (goal.at.overflow_add-end c).After-names_bytes-then-honest-j, room (goal.at.overflow_add-end c).After-names_bytes)
+overflow_add-end c = omega (arith, second_most (goal.at.overflow_add-end c).After-names_bytes-then-honest-j, room (goal.at.overflow_add-end c).After-names_bytes)
 
 pub slice_bounds-one_begins-end : goal.slice_bounds-one_begins-end
 slice_bounds-one_begins-end c =
-    omega (arith, first-most (goal.at.slice_bounds-one_begins-end c).After-names_bytes, room (goal.at.slice_bounds-one_begins-end c).After-names_bytes, c.requires.0.long)
+    omega (arith, first_most (goal.at.slice_bounds-one_begins-end c).After-names_bytes, room (goal.at.slice_bounds-one_begins-end c).After-names_bytes, c.requires.0.long)
 
 pub slice_bounds-one_begins-end-then-honest-j : goal.slice_bounds-one_begins-end-then-honest-j
 slice_bounds-one_begins-end-then-honest-j c =
-    omega (arith, second-most (goal.at.slice_bounds-one_begins-end-then-honest-j c).After-names_bytes-then-honest-j, room (goal.at.slice_bounds-one_begins-end-then-honest-j c).After-names_bytes, c.requires.0.long)
+    omega (arith, second_most (goal.at.slice_bounds-one_begins-end-then-honest-j c).After-names_bytes-then-honest-j, room (goal.at.slice_bounds-one_begins-end-then-honest-j c).After-names_bytes, c.requires.0.long)
 
 pub returns-then-not-one_begins : goal.returns-then-not-one_begins
 returns-then-not-one_begins c =
     let a = c.args in
-    let read = begun-read a.lists.now a.counts a.honest a.i c.loop-j.j c.names_bytes.ensures c.names_bytes-then-honest-j.ensures c.requires.2 c.if-honest-j.true c.one_begins.ensures in
+    let read = begun_read a.lists.now a.counts a.honest a.i c.loop-j.j c.names_bytes.ensures c.names_bytes-then-honest-j.ensures c.requires.2 c.if-honest-j.true c.one_begins.ensures in
     below_fails a.i (begun a.lists.now a.counts a.honest a.i) c.loop-j.j c.one_begins.result c.loop-j-test.true read (ap not c.if-not-one_begins.true)
 
 pub loop-j-preserved : goal.loop-j-preserved
@@ -76,7 +76,7 @@ loop-j-preserved c =
     let here : begun a.lists.now a.counts a.honest a.i j ≡ true =
     elim c.if-honest-j.branch [
       | then-honest-j+else-not-one_begins w ↦
-          sym (begun-read a.lists.now a.counts a.honest a.i j c.names_bytes.ensures w.names_bytes-then-honest-j.ensures c.requires.2 w.if-honest-j.true w.one_begins.ensures) ∙ w.if-not-one_begins.false
+          sym (begun_read a.lists.now a.counts a.honest a.i j c.names_bytes.ensures w.names_bytes-then-honest-j.ensures c.requires.2 w.if-honest-j.true w.one_begins.ensures) ∙ w.if-not-one_begins.false
       | else-honest-j w ↦
           begun-not a.lists.now a.counts a.honest a.i j (ap (λ (t : Bool). get_or a.honest a.i false && t) w.if-honest-j.false ∙ and-false (get_or a.honest a.i false))
     ] in

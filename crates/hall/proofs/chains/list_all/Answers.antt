@@ -1,8 +1,8 @@
 -- The lists of the honest gateways: those passed stand there. The measure is what is left of them. Assumes nothing.
 use Prim.Native.Nat.{◌<◌}
 use Rattle.accord.specs.Head.{gateway, honest_in, most_gateways}
-use Rattle.hall.proofs.Agreeing.{listed-all, listed-as, listed_more, listed-none, listed-silent}
-use Rattle.hall.proofs.Seated.{gateway-read}
+use Rattle.hall.proofs.Agreeing.{listed_all, listed_as, listed_more, listed_none, listed_silent}
+use Rattle.hall.proofs.Seated.{gateway_read}
 use Rattle.pala.specs.Shape.{well_shaped}
 use Rattle.table.specs.declared.State.{State}
 use lib.ListN.{get_or}
@@ -20,10 +20,10 @@ unfolding honest_in
 shown c =
     let k = c.requires.1 in
     let low = k.low c.loop-i.i c.if-h-i.true in
-    (low, λ d. gateway-read k c.loop-i.i d low)
+    (low, λ d. gateway_read k c.loop-i.i d low)
 
 pub loop-i-init : goal.loop-i-init
-loop-i-init c = (omega arith, listed-none c.requires.0)
+loop-i-init c = (omega arith, listed_none c.requires.0)
 
 pub list-count-requires : goal.list-count-requires
 list-count-requires c =
@@ -37,8 +37,8 @@ loop-i-preserved c =
     let low : c.loop-i.i < most_gateways = omega arith in (
       omega arith,
       elim c.if-h-i.branch [
-        | then-h-i x ↦ listed-as (x.lists-is ∙ x.list-count.ensures.2) x.counts-is (listed_more w _ _ (gateway-read c.requires.1 c.loop-i.i _ (c.requires.1.low c.loop-i.i x.if-h-i.true)) low x.list-count.ensures.1 x.list-count.ensures.3)
-        | else-h-i x ↦ listed-as x.lists-is x.counts-is (listed-silent w x.if-h-i.false)
+        | then-h-i x ↦ listed_as (x.lists-is ∙ x.list-count.ensures.2) x.counts-is (listed_more w _ _ (gateway_read c.requires.1 c.loop-i.i _ (c.requires.1.low c.loop-i.i x.if-h-i.true)) low x.list-count.ensures.1 x.list-count.ensures.3)
+        | else-h-i x ↦ listed_as x.lists-is x.counts-is (listed_silent w x.if-h-i.false)
       ],
     )
 
@@ -46,4 +46,4 @@ pub shape_of-lists : goal.shape_of-lists
 shape_of-lists c = c.loop-i.invariant.1.fit.long ∙ sym c.requires.0
 
 pub returns : goal.returns
-returns c = listed-all c.loop-i.invariant.1 (omega arith)
+returns c = listed_all c.loop-i.invariant.1 (omega arith)

@@ -1,5 +1,5 @@
 -- An honest number below eight, whose rows are asked.
-use Rattle.hall.proofs.Verdicts.{flag-below}
+use Rattle.hall.proofs.Verdicts.{flag_below}
 use Rattle.hall.specs.Book.{shown_in}
 use borrow.Author.Rules.{rules}
 use lib.ListN.{get_or}
@@ -19,7 +19,7 @@ returns-then-not-honest_at c =
 
 pub shown-requires : goal.shown-requires
 shown-requires c =
-    let a = c.args in (c.requires, flag-below a.honest a.who (search rules) (told (goal.at.shown-requires c).Else-not-honest_at))
+    let a = c.args in (c.requires, flag_below a.honest a.who (search rules) (told (goal.at.shown-requires c).Else-not-honest_at))
 
 pub returns : goal.returns
 returns c =

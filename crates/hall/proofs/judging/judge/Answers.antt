@@ -1,5 +1,5 @@
 -- Each refusal in its order, and then what was decided.
-use Rattle.hall.proofs.Judged.{unshown, clashes, judged-stranger, judged-forged, judged-clash, judged-answer}
+use Rattle.hall.proofs.Judged.{unshown, clashes, judged_stranger, judged-forged, judged-clash, judged-answer}
 use Rattle.pala.specs.Record.{proposal_heard, vote_heard}
 use lib.ListN.{get_or}
 use mathlib.Core.Bool.{true, false}
@@ -29,7 +29,7 @@ single c e = elim c.if-kind-eq-PROPOSAL_HEARD.branch [ then-kind-eq-PROPOSAL_HEA
 pub returns-then-not-honest_at : goal.returns-then-not-honest_at
 returns-then-not-honest_at c =
     let a = c.args in
-    judged-stranger a.book.now a.honest a.to a.d (sym c.honest_at.ensures ∙ c.if-not-honest_at.true)
+    judged_stranger a.book.now a.honest a.to a.d (sym c.honest_at.ensures ∙ c.if-not-honest_at.true)
 
 pub returns-then-forged : goal.returns-then-forged
 returns-then-forged c =

@@ -1,6 +1,6 @@
 -- The block that the receiver would add is looked for, unless the receiver is no honest node.
 use Prim.Native.Nat.{◌<◌}
-use Rattle.hall.proofs.Judged.{clashes_own, own-stranger, own-clashes, own-told}
+use Rattle.hall.proofs.Judged.{clashes_own, own_stranger, own_clashes, own_told}
 use Rattle.hall.specs.Judged.{clashed_in}
 use Rattle.rules.specs.declared.Top.{Top}
 use Rattle.table.specs.Rows.{at, rows}
@@ -24,14 +24,14 @@ looked c =
 pub returns-then-told-eq-RECEIVER : goal.returns-then-told-eq-RECEIVER
 returns-then-told-eq-RECEIVER c =
     let a = c.args in
-    (own-stranger a.book.now a.s a.d.fields a.told c.if-told-eq-RECEIVER.true, fits (goal.at.returns-then-told-eq-RECEIVER c).Start)
+    (own_stranger a.book.now a.s a.d.fields a.told c.if-told-eq-RECEIVER.true, fits (goal.at.returns-then-told-eq-RECEIVER c).Start)
 
 pub returns-then-clash : goal.returns-then-clash
 returns-then-clash c =
     let a = c.args in
-    (own-clashes a.book.now a.s a.d.fields a.told c.if-told-eq-RECEIVER.false (sym (looked (goal.at.returns-then-clash c).After-clash) ∙ c.if-clash.true), fits (goal.at.returns-then-clash c).Start)
+    (own_clashes a.book.now a.s a.d.fields a.told c.if-told-eq-RECEIVER.false (sym (looked (goal.at.returns-then-clash c).After-clash) ∙ c.if-clash.true), fits (goal.at.returns-then-clash c).Start)
 
 pub returns : goal.returns
 returns c =
     let a = c.args in
-    (own-told a.book.now a.s a.d.fields a.told c.if-told-eq-RECEIVER.false (sym (looked (goal.at.returns c).After-clash) ∙ c.if-clash.false), fits (goal.at.returns c).Start)
+    (own_told a.book.now a.s a.d.fields a.told c.if-told-eq-RECEIVER.false (sym (looked (goal.at.returns c).After-clash) ∙ c.if-clash.false), fits (goal.at.returns c).Start)

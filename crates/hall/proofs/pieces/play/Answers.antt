@@ -2,7 +2,7 @@
 use Prim.Native.Nat.{ℕ}
 use Rattle.accord.specs.Head.{hall_shaped}
 use Rattle.accord.specs.Text.{sent_bytes}
-use Rattle.hall.proofs.Answered.{sent-count, piece-unshaped, piece-short, piece-over, piece-played}
+use Rattle.hall.proofs.Answered.{sent-count, piece_unshaped, piece_short, piece_over, piece-played}
 use Rattle.hall.specs.Lists.{lists_bytes}
 use Rattle.hall.specs.Play.{HallPiece, HallReady}
 use Rattle.hall.specs.declared.pieces.Told.{Told}
@@ -35,17 +35,17 @@ ready c counted =
 pub returns-then-not-hall_shaped : goal.returns-then-not-hall_shaped
 returns-then-not-hall_shaped c =
     ap (piece c.args.text.now) c.handed.ensures
-    ∙ sym (piece-unshaped c.args.h c.args.before c.args.input.now c.args.text.now (sym c.hall_shaped.ensures.0 ∙ c.if-not-hall_shaped.true))
+    ∙ sym (piece_unshaped c.args.h c.args.before c.args.input.now c.args.text.now (sym c.hall_shaped.ensures.0 ∙ c.if-not-hall_shaped.true))
 
 pub returns-then-text-count : goal.returns-then-text-count
 returns-then-text-count c =
     ap (piece c.args.text.now) c.handed-then-text-count.ensures
-    ∙ sym (piece-short c.args.h c.args.before c.args.input.now c.args.text.now (shaped (goal.at.returns-then-text-count c).After-stretch_count-count) (omega (arith, many (goal.at.returns-then-text-count c).After-stretch_count-count)))
+    ∙ sym (piece_short c.args.h c.args.before c.args.input.now c.args.text.now (shaped (goal.at.returns-then-text-count c).After-stretch_count-count) (omega (arith, many (goal.at.returns-then-text-count c).After-stretch_count-count)))
 
 pub returns-then-count-before : goal.returns-then-count-before
 returns-then-count-before c =
     ap (piece c.args.text.now) c.handed-then-count-before.ensures
-    ∙ sym (piece-over c.args.h c.args.before c.args.input.now c.args.text.now (shaped (goal.at.returns-then-count-before c).After-stretch_count-count) (omega (arith, many (goal.at.returns-then-count-before c).After-stretch_count-count)) (omega (arith, many (goal.at.returns-then-count-before c).After-stretch_count-count)))
+    ∙ sym (piece_over c.args.h c.args.before c.args.input.now c.args.text.now (shaped (goal.at.returns-then-count-before c).After-stretch_count-count) (omega (arith, many (goal.at.returns-then-count-before c).After-stretch_count-count)) (omega (arith, many (goal.at.returns-then-count-before c).After-stretch_count-count)))
 
 pub play_records-requires : goal.play_records-requires
 play_records-requires c = (ready (goal.at.play_records-requires c).Else-count-before (many (goal.at.play_records-requires c).After-stretch_count-count), refl, length-replicate {A = ℕ} lists_bytes 0)

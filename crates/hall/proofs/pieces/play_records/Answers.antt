@@ -3,15 +3,15 @@ use Prim.Native.Nat.{ℕ, ◌+◌, ◌-◌, ◌<◌, ◌≤◌}
 use Rattle.accord.specs.Head.{gateway}
 use Rattle.accord.specs.Rulings.{seated, verdict, verdict_number}
 use Rattle.accord.specs.declared.Hall.{Hall}
-use Rattle.hall.proofs.Judged.{told-own, told-other, told_by}
-use Rattle.hall.proofs.Seated.{gateway-read}
-use Rattle.hall.proofs.Telling.{hall_tale, hall-end, hall-recorded, sent-to, sent-record}
-use Rattle.hall.proofs.Turned.{Turned, Admitted, turn-refused, turn-taken, turn-as, turned-flags, admitted, admitted-taken}
-use Rattle.hall.proofs.Verdicts.{Seat, seat-of, told_is}
+use Rattle.hall.proofs.Judged.{told_own, told_other, told_by}
+use Rattle.hall.proofs.Seated.{gateway_read}
+use Rattle.hall.proofs.Telling.{hall_tale, hall_end, hall_recorded, sent-to, sent_record}
+use Rattle.hall.proofs.Turned.{Turned, Admitted, turn_refused, turn_taken, turn_as, turned_flags, admitted, admitted_taken}
+use Rattle.hall.proofs.Verdicts.{Seat, seat_of_lem, told_is}
 use Rattle.hall.specs.Book.{book_bytes}
 use Rattle.hall.specs.Play.{HallPiece, Live, Moving}
 use Rattle.hall.specs.declared.pieces.Told.{Told}
-use Rattle.lines.proofs.Going.{going_start, going_next, going-numbered, going-length, going-room, going_end}
+use Rattle.lines.proofs.Going.{going_start, going_next, going_numbered, going_length, going_room, going_end}
 use Rattle.lines.specs.Play.{last_number}
 use Rattle.node.specs.Moves.{decision}
 use Rattle.node.specs.declared.Decision.{Decision}
@@ -34,7 +34,7 @@ use Rattle.hall.proofs.pieces.play_records.Goals.{After-seat-i, In-loop-from, Jo
 
 -- there is a number for the record
 numbered : (c : In-loop-from) → c.loop-from.k < last_number
-numbered c = let i = c.loop-from.invariant in going-numbered hall_tale i.4 c.loop-from-test.true i.3
+numbered c = let i = c.loop-from.invariant in going_numbered hall_tale i.4 c.loop-from-test.true i.3
 
 -- ---- the seat
 
@@ -60,8 +60,8 @@ sat c =
     let to = c.wide-to.result in
     let i = c.seat-i.result in
     let live = c.loop-from.invariant.0 in
-    let sits = seat-of live.kept to i (c.seat-i.ensures ∙ ap (λ (n : ℕ). pick (ltb to n) to 0) c.loop-from.invariant.2) in
-    let reads : read c.loop-from.hall i ≡ gateway c.loop-from.hall i = gateway-read live.kept i _ sits.inside in
+    let sits = seat_of_lem live.kept to i (c.seat-i.ensures ∙ ap (λ (n : ℕ). pick (ltb to n) to 0) c.loop-from.invariant.2) in
+    let reads : read c.loop-from.hall i ≡ gateway c.loop-from.hall i = gateway_read live.kept i _ sits.inside in
     record {
       sits = sits;
       low = omega (arith, sits.inside, live.kept.most);
@@ -85,10 +85,10 @@ decided c s = c.decide_shaped-d.ensures ∙ ap (λ (t : State). decision t (rec 
 epoch-low : (c : Joined-d-eq-PROPOSE_NOW) → c.decide_shaped-d.result.fields.epoch.0 < 4294967296
 epoch-low c = search rules
 
-local-low :
+local_low :
     (c : Joined-d-eq-PROPOSE_NOW) → Sat c.loop-from.hall c.wide-to.result c.seat-i.result
     → c.decide_shaped-d.result.fields.kind ≡ propose_now → (gateway c.loop-from.hall c.seat-i.result).local.0 < 4294967296
-local-low c s e =
+local_low c s e =
     elim c.if-d-eq-PROPOSE_NOW.branch [
       | then-d-eq-PROPOSE_NOW w ↦ subst (λ t. t.local.0 < 4294967296) s.reads w.judge_own-told.ensures.1
       | else-d-eq-PROPOSE_NOW w ↦ absurd (w.if-d-eq-PROPOSE_NOW.false e)
@@ -102,9 +102,9 @@ told c =
     let state = read c.loop-from.hall c.seat-i.result in
     elim c.if-d-eq-PROPOSE_NOW.branch [
       | then-d-eq-PROPOSE_NOW w ↦
-          w.told-is ∙ told-own c.loop-from.book c.args.h.honest c.wide-to.result state c.decide_shaped-d.result judges w.if-d-eq-PROPOSE_NOW.true w.judge_own-told.ensures.0
+          w.told-is ∙ told_own c.loop-from.book c.args.h.honest c.wide-to.result state c.decide_shaped-d.result judges w.if-d-eq-PROPOSE_NOW.true w.judge_own-told.ensures.0
       | else-d-eq-PROPOSE_NOW w ↦
-          w.told-is ∙ told-other c.loop-from.book c.args.h.honest c.wide-to.result state c.decide_shaped-d.result judges w.if-d-eq-PROPOSE_NOW.false
+          w.told-is ∙ told_other c.loop-from.book c.args.h.honest c.wide-to.result state c.decide_shaped-d.result judges w.if-d-eq-PROPOSE_NOW.false
     ]
 
 answered :
@@ -114,7 +114,7 @@ answered c s =
     let l = c.loop-from.invariant.0 in
     told c
     ∙ (λ j. told_by c.loop-from.book (c.loop-from.invariant.1 j) c.wide-to.result (s.reads j) c.decide_shaped-d.result)
-    ∙ told_is l.kept l.pages s.sits (rec c.loop-from.from c.stretch-size.result c.args.input.now) (decided c s) (epoch-low c) (local-low c s)
+    ∙ told_is l.kept l.pages s.sits (rec c.loop-from.from c.stretch-size.result c.args.input.now) (decided c s) (epoch-low c) (local_low c s)
 
 -- ---- a taken record
 
@@ -150,10 +150,10 @@ turned c s told =
     elim c.if-told-eq0.branch [
       | then-told-eq0 w ↦
           let a = admitted s.sits told w.if-told-eq0.true in
-          turn-as w.hall-is w.book-is w.lists-is w.beside-is
-          (turn-taken a (next s _ c.decide_shaped-d.ensures w.take_shaped-t.ensures)
+          turn_as w.hall-is w.book-is w.lists-is w.beside-is
+          (turn_taken a (next s _ c.decide_shaped-d.ensures w.take_shaped-t.ensures)
           (w.move_on-beside.ensures _ _ (moving s _ c.decide_shaped-d.ensures w.take_shaped-t.ensures live c.loop-from.invariant.1 a)))
-      | else-told-eq0 w ↦ turn-as w.hall-is w.book-is w.lists-is w.beside-is (turn-refused live told w.if-told-eq0.false)
+      | else-told-eq0 w ↦ turn_as w.hall-is w.book-is w.lists-is w.beside-is (turn_refused live told w.if-told-eq0.false)
     ]
 
 pub set_out-beside-requires : goal.set_out-beside-requires
@@ -219,7 +219,7 @@ take_shaped-t-requires c =
     let s = sat at.After-seat-i in
     let j = at.Joined-d-eq-PROPOSE_NOW in (
       s.shaped,
-      admitted-taken (admitted s.sits (answered j s) c.if-told-eq0.true) c.loop-from.invariant.0.kept (decided j s),
+      admitted_taken (admitted s.sits (answered j s) c.if-told-eq0.true) c.loop-from.invariant.0.kept (decided j s),
       (_, c.decide_shaped-d.ensures),
     )
 
@@ -251,17 +251,17 @@ loop-from-preserved c =
     let t = turned at.Joined-told-eq0 s told in
     let some = (stretched at.After-seat-i).0 in (
       t.live,
-      l.invariant.1 ∙ (turned-flags t).0,
-      l.invariant.2 ∙ (turned-flags t).1,
+      l.invariant.1 ∙ (turned_flags t).0,
+      l.invariant.2 ∙ (turned_flags t).1,
       l.invariant.3,
       going_next hall_tale l.invariant.4 c.loop-from-test.true c.stretch-size.ensures
-          (hall-recorded (sent-to c.args.input.now l.from c.stretch-size.result c.loop-from-test.true some ∙ sym c.wide-to.ensures.0)
-          (sent-record c.args.input.now l.from c.stretch-size.result c.loop-from-test.true some) t told
-          (going-room hall_tale l.invariant.4 c.loop-from-test.true) (omega (arith, numbered at.In-loop-from)) c.put_said-end.ensures),
+          (hall_recorded (sent-to c.args.input.now l.from c.stretch-size.result c.loop-from-test.true some ∙ sym c.wide-to.ensures.0)
+          (sent_record c.args.input.now l.from c.stretch-size.result c.loop-from-test.true some) t told
+          (going_room hall_tale l.invariant.4 c.loop-from-test.true) (omega (arith, numbered at.In-loop-from)) c.put_said-end.ensures),
     )
 
 pub shape_of-text : goal.shape_of-text
-shape_of-text c = going-length hall_tale c.loop-from.invariant.4
+shape_of-text c = going_length hall_tale c.loop-from.invariant.4
 
 pub shape_of-book : goal.shape_of-book
 shape_of-book c = c.loop-from.invariant.0.pages.long ∙ sym (ap length c.requires.1 ∙ length-replicate {A = ℕ} book_bytes 0)
@@ -273,4 +273,4 @@ pub returns : goal.returns
 returns c =
     let l = c.loop-from in
     ap {B = HallPiece} (λ (x : Told). record { answer = x.answer; hall = x.hall; before = x.before; length = x.length; text = l.text }) c.handed.ensures
-    ∙ hall-end (going_end hall_tale l.invariant.4 c.loop-from-test.false)
+    ∙ hall_end (going_end hall_tale l.invariant.4 c.loop-from-test.false)

@@ -3,7 +3,7 @@ use Prim.Native.Nat.{ℕ, suc, ◌<◌}
 use Rattle.accord.specs.Head.{gateway, most_gateways}
 use Rattle.hall.proofs.Parts.{below_fails}
 use Rattle.pala.specs.Shape.{well_shaped}
-use Rattle.table.proofs.Laws.{all_below-all, get_d_any}
+use Rattle.table.proofs.Laws.{all_below_all, get_d_any}
 use Rattle.table.specs.Rows.{capacity, all_zero}
 use Rattle.table.specs.declared.State.{State}
 use borrow.Author.Count.{below_more}
@@ -45,4 +45,4 @@ pub returns : goal.returns
 returns c =
     let h = c.args.h in
     let good : (i : ℕ) → i < h.n → Good (gateway h i) = λ i m. c.loop-i.invariant.1 i (omega arith) in
-    (sym (all_below-all h.n (λ i. well_shaped (gateway h i)) (λ i m. (good i m).0)), λ e i m. (good i m).1)
+    (sym (all_below_all h.n (λ i. well_shaped (gateway h i)) (λ i m. (good i m).0)), λ e i m. (good i m).1)

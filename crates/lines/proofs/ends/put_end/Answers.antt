@@ -1,11 +1,11 @@
 -- "end ", and the number.
-use Rattle.lines.proofs.Laws.{digits-most, number-most, end_line_lem, lined-none, lined-put, put_as, put_then}
+use Rattle.lines.proofs.Laws.{digits-most, number-most, end_line_lem, lined_none, lined-put, put_as, put_then}
 use Rattle.pala.specs.Lines.{end_line}
 use native.Mathlib.Omega.{arith}
 use Rattle.lines.proofs.ends.put_end.Goals as goal
 
 pub returns-then-text-lt-ROOM : goal.returns-then-text-lt-ROOM
-returns-then-text-lt-ROOM c = lined-none (end_line c.args.count) c.args.text.now c.if-text-lt-ROOM.true
+returns-then-text-lt-ROOM c = lined_none (end_line c.args.count) c.args.text.now c.if-text-lt-ROOM.true
 
 -- UNKNOWN slice-aggregate-put-bytes : tie.Need-slice-aggregate-put-bytes
 -- slice-aggregate-put-bytes c = search rules

@@ -1,5 +1,5 @@
 -- Two numbers, the word and the new line, one after the other.
-use Rattle.lines.proofs.Worded.{Spacious, worded-none, first_fits, second_fits, word_fits, end_fits, worded-put}
+use Rattle.lines.proofs.Worded.{Spacious, worded_none, first_fits, second_fits, word_fits, end_fits, worded-put}
 use native.Mathlib.Omega.{arith}
 use Rattle.lines.proofs.words.put_worded.Goals as goal
 use Rattle.lines.proofs.words.put_worded.Goals.{Else-left-word}
@@ -10,15 +10,15 @@ spacious c = record { room = omega arith; first = c.ranges.k.fits; second = c.ra
 
 pub returns-then-long-at : goal.returns-then-long-at
 returns-then-long-at c =
-    let a = c.args in worded-none a.k a.answer a.word.now a.at a.text.now (omega arith)
+    let a = c.args in worded_none a.k a.answer a.word.now a.at a.text.now (omega arith)
 
 pub returns-then-left-lt-NUMBERS_MOST : goal.returns-then-left-lt-NUMBERS_MOST
 returns-then-left-lt-NUMBERS_MOST c =
-    let a = c.args in worded-none a.k a.answer a.word.now a.at a.text.now (omega arith)
+    let a = c.args in worded_none a.k a.answer a.word.now a.at a.text.now (omega arith)
 
 pub returns-then-left-word : goal.returns-then-left-word
 returns-then-left-word c =
-    let a = c.args in worded-none a.k a.answer a.word.now a.at a.text.now (omega arith)
+    let a = c.args in worded_none a.k a.answer a.word.now a.at a.text.now (omega arith)
 
 pub put_number-a-requires : goal.put_number-a-requires
 put_number-a-requires c = first_fits (spacious (goal.at.put_number-a-requires c).Else-left-word)

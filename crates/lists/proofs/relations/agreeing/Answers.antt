@@ -1,5 +1,5 @@
 -- How many names agree: none passed differs. The measure is the names that are left. Assumes nothing.
-use Rattle.lists.proofs.Sides.{agreeing-all, agreeing-is}
+use Rattle.lists.proofs.Sides.{agreeing_all, agreeing-is}
 use borrow.Author.Count.{below_more}
 use mathlib.Core.Path.{◌∙◌, sym}
 use native.Mathlib.Omega.{arith}
@@ -18,4 +18,4 @@ loop-k-preserved c =
 
 pub returns : goal.returns
 returns c =
-    c.in_both-end.ensures ∙ sym (agreeing-all _ _ (λ i l. c.loop-k.invariant.1 i (omega arith)))
+    c.in_both-end.ensures ∙ sym (agreeing_all _ _ (λ i l. c.loop-k.invariant.1 i (omega arith)))

@@ -1,5 +1,5 @@
 -- Two names are the same: no byte passed differs. The measure is what is left of the name. Assumes nothing.
-use Rattle.lists.proofs.Sides.{names-differ, names_same}
+use Rattle.lists.proofs.Sides.{names_differ, names_same}
 use borrow.Author.Count.{below_more}
 use mathlib.Core.Path.{sym}
 use native.Mathlib.Omega.{arith}
@@ -10,7 +10,7 @@ loop-k-init c = (omega arith, λ i l. absurd (omega arith))
 
 pub returns-then-a-from : goal.returns-then-a-from
 returns-then-a-from c =
-    sym (names-differ _ _ c.args.from c.loop-k.k (omega arith) c.if-a-from.true)
+    sym (names_differ _ _ c.args.from c.loop-k.k (omega arith) c.if-a-from.true)
 
 pub loop-k-preserved : goal.loop-k-preserved
 loop-k-preserved c =

@@ -1,6 +1,6 @@
 -- One block more, at the next place. Assumes nothing.
 use Prim.Native.Nat.{suc}
-use Rattle.node.proofs.Stores.{block-does}
+use Rattle.node.proofs.Stores.{block_does}
 use Rattle.table.specs.Rows.{capacity}
 use borrow.Author.Rules.{rules}
 use lib.ListN.{length}
@@ -13,4 +13,4 @@ held c = search rules
 
 pub returns : goal.returns
 returns c =
-    block-does _ (held (goal.at.returns c).Start) _ _ _ _ c.requires.0 c.requires.1 c.kept_clock-clock.ensures
+    block_does _ (held (goal.at.returns c).Start) _ _ _ _ c.requires.0 c.requires.1 c.kept_clock-clock.ensures

@@ -1,6 +1,6 @@
 -- One voter more: the row at a place with him. Assumes nothing.
 use Prim.Native.Nat.{suc}
-use Rattle.node.proofs.Stores.{vote-does}
+use Rattle.node.proofs.Stores.{vote_does}
 use Rattle.table.specs.Rows.{capacity}
 use borrow.Author.Rules.{rules}
 use lib.ListN.{length}
@@ -13,4 +13,4 @@ held c = search rules
 
 pub returns : goal.returns
 returns c =
-    vote-does _ (held (goal.at.returns c).Start) _ _ _ _ _ _ _ c.requires.0 c.requires.1 c.requires.2 c.requires.3 c.with_voter-b.ensures c.kept_clock-clock.ensures
+    vote_does _ (held (goal.at.returns c).Start) _ _ _ _ _ _ _ c.requires.0 c.requires.1 c.requires.2 c.requires.3 c.with_voter-b.ensures c.kept_clock-clock.ensures

@@ -1,7 +1,7 @@
 -- Rows 7 to 14 of a cast: each test is a row, passed or refused by. Assumes nothing.
 use Prim.Native.Nat.{ℕ, suc}
 use Rattle.node.proofs.ByKind.{cast_rows, cast-judged}
-use Rattle.node.proofs.Facts.{past-yes, past-no, number, sized}
+use Rattle.node.proofs.Facts.{past_yes, past_no, number, sized}
 use Rattle.node.proofs.Ways.Through.{refuses, passes, takes}
 use Rattle.node.proofs.Ways.{Through, Past}
 use Rattle.node.specs.Moves.{judged}
@@ -31,14 +31,14 @@ To s f k = Past (cast_rows s f) (picked s) k
 given : (c : Start) (m : Move) → Through (cast_rows c.args.s c.args.f) (picked c.args.s) m → (r : List ℕ) → c.args.f ≡ fields_of r → m ≡ judged c.args.s r
 given c m = cast-judged c.args.s c.args.f m (sized c.args.s c.requires.0 (held c)) c.requires.1
 
-past-1 : (c : Else-s-block) → To c.args.s c.args.f 1
+past_1 : (c : Else-s-block) → To c.args.s c.args.f 1
 unfolding picked
-past-1 c m way = passes (past-no (number c.ballot-block.ensures) c.if-s-block.false) way
+past_1 c m way = passes (past_no (number c.ballot-block.ensures) c.if-s-block.false) way
 
 pub returns-then-s-block : goal.returns-then-s-block
 unfolding taken picked
-returns-then-s-block c r e = c.refused.ensures ∙ given (goal.at.returns-then-s-block c).Start _ (refuses (past-yes (number c.ballot-block.ensures) c.if-s-block.true) refl) r e
+returns-then-s-block c r e = c.refused.ensures ∙ given (goal.at.returns-then-s-block c).Start _ (refuses (past_yes (number c.ballot-block.ensures) c.if-s-block.true) refl) r e
 
 pub returns : goal.returns
 unfolding picked
-returns c r e = ap (λ (p : Place). record { answer = Answer.Taken; place = p }) c.ballot-block.ensures ∙ given (goal.at.returns c).Start _ (past-1 (goal.at.returns c).Else-s-block _ takes) r e
+returns c r e = ap (λ (p : Place). record { answer = Answer.Taken; place = p }) c.ballot-block.ensures ∙ given (goal.at.returns c).Start _ (past_1 (goal.at.returns c).Else-s-block _ takes) r e

@@ -1,7 +1,7 @@
 -- Rows 7 to 14 of the minute: each test is a row, passed or refused by. Assumes nothing.
 use Prim.Native.Nat.{ℕ, suc}
-use Rattle.node.proofs.ByKind.{minute_rows, minute-judged}
-use Rattle.node.proofs.Facts.{past-yes, past-no, kept-clock, sized}
+use Rattle.node.proofs.ByKind.{minute_rows, minute_judged}
+use Rattle.node.proofs.Facts.{past_yes, past_no, kept-clock, sized}
 use Rattle.node.proofs.Ways.Through.{refuses, passes, takes}
 use Rattle.node.proofs.Ways.{Through, Past}
 use Rattle.node.specs.Moves.{judged}
@@ -27,13 +27,13 @@ To s f k = Past (minute_rows s f) (0) k
 
 -- a way through the rows is what they give of the record
 given : (c : Start) (m : Move) → Through (minute_rows c.args.s c.args.f) (0) m → (r : List ℕ) → c.args.f ≡ fields_of r → m ≡ judged c.args.s r
-given c m = minute-judged c.args.s c.args.f m (sized c.args.s c.requires.0 (held c)) c.requires.1
+given c m = minute_judged c.args.s c.args.f m (sized c.args.s c.requires.0 (held c)) c.requires.1
 
-past-1 : (c : Else-e-ge-TOP_EPOCH) → To c.args.s c.args.f 1
-past-1 c m way = passes (lt-leb _ _ c.if-e-ge-TOP_EPOCH.false) way
+past_1 : (c : Else-e-ge-TOP_EPOCH) → To c.args.s c.args.f 1
+past_1 c m way = passes (lt-leb _ _ c.if-e-ge-TOP_EPOCH.false) way
 
-past-2 : (c : Else-e-kept) → To c.args.s c.args.f 2
-past-2 c m way = past-1 c.before.before.before.before.before m (passes (past-no (kept-clock c.clock_from-kept.ensures) c.if-e-kept.false) way)
+past_2 : (c : Else-e-kept) → To c.args.s c.args.f 2
+past_2 c m way = past_1 c.before.before.before.before.before m (passes (past_no (kept-clock c.clock_from-kept.ensures) c.if-e-kept.false) way)
 
 pub returns-then-e-ge-TOP_EPOCH : goal.returns-then-e-ge-TOP_EPOCH
 unfolding taken
@@ -41,7 +41,7 @@ returns-then-e-ge-TOP_EPOCH c r e = c.refused.ensures ∙ given (goal.at.returns
 
 pub returns-then-e-kept : goal.returns-then-e-kept
 unfolding taken
-returns-then-e-kept c r e = c.refused-then-e-kept.ensures ∙ given (goal.at.returns-then-e-kept c).Start _ (past-1 (goal.at.returns-then-e-kept c).Else-e-ge-TOP_EPOCH _ (refuses (past-yes (kept-clock c.clock_from-kept.ensures) c.if-e-kept.true) refl)) r e
+returns-then-e-kept c r e = c.refused-then-e-kept.ensures ∙ given (goal.at.returns-then-e-kept c).Start _ (past_1 (goal.at.returns-then-e-kept c).Else-e-ge-TOP_EPOCH _ (refuses (past_yes (kept-clock c.clock_from-kept.ensures) c.if-e-kept.true) refl)) r e
 
 pub returns : goal.returns
-returns c r e = given (goal.at.returns c).Start _ (past-2 (goal.at.returns c).Else-e-kept _ takes) r e
+returns c r e = given (goal.at.returns c).Start _ (past_2 (goal.at.returns c).Else-e-kept _ takes) r e

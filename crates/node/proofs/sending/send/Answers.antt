@@ -1,12 +1,12 @@
 -- The record to send, by kind; the other kinds leave the buffer. Assumes nothing.
-use Rattle.node.proofs.Grants.{minute-left}
-use Rattle.node.proofs.Sends.{unsent, proposal-sent, vote-sent, clock-sent}
+use Rattle.node.proofs.Grants.{minute_left}
+use Rattle.node.proofs.Sends.{unsent, proposal_sent, vote-sent, clock-sent}
 use native.Mathlib.Omega.{arith}
 use Rattle.node.proofs.sending.send.Goals as goal
 
 pub returns-then-kind-eq-PROPOSE_NOW : goal.returns-then-kind-eq-PROPOSE_NOW
 returns-then-kind-eq-PROPOSE_NOW c r g l =
-    proposal-sent g _ c.requires.0 l c.if-kind-eq-PROPOSE_NOW.true c.at-b.ensures c.own_proposal.ensures c.write.ensures
+    proposal_sent g _ c.requires.0 l c.if-kind-eq-PROPOSE_NOW.true c.at-b.ensures c.own_proposal.ensures c.write.ensures
 
 pub returns-then-kind-eq-CAST_NOW : goal.returns-then-kind-eq-CAST_NOW
 returns-then-kind-eq-CAST_NOW c r g l =
@@ -14,7 +14,7 @@ returns-then-kind-eq-CAST_NOW c r g l =
 
 pub overflow_add-s : goal.overflow_add-s
 overflow_add-s c =
-    omega (arith, minute-left c.requires.1.1 c.if-kind-eq-MINUTE_UP.true)
+    omega (arith, minute_left c.requires.1.1 c.if-kind-eq-MINUTE_UP.true)
 
 pub returns-then-kind-eq-MINUTE_UP : goal.returns-then-kind-eq-MINUTE_UP
 returns-then-kind-eq-MINUTE_UP c r g l =

@@ -1,6 +1,6 @@
 -- The state after a direct effect and the five steps, from where it stood between them. Assumes nothing.
 use Prim.Native.Nat.{suc}
-use Rattle.node.proofs.Calls.{granted-fresh}
+use Rattle.node.proofs.Calls.{granted_fresh}
 use Rattle.node.proofs.Settles.{done-rows, settles, stands}
 use Rattle.node.proofs.Stores.{row-held}
 use Rattle.node.specs.Done.{done}
@@ -51,7 +51,7 @@ overflow_add-fresh c =
     let stood : c.standing-stand.result ≡ standing (done c.args.s c.effect_of-e.result) =
     stands (done c.args.s c.effect_of-e.result) (done-rows c.args.s c.effect_of-e.result (held (goal.at.overflow_add-fresh c).Start)) _ c.columns_of-columns.ensures _ c.standing-stand.ensures in
     let fresh : c.standing-stand.result.fresh.0 ≡ fresh_epoch (done c.args.s c.effect_of-e.result) = ap (λ (x : Standing). x.fresh.0) stood in
-    omega (arith, granted-fresh (held (goal.at.overflow_add-fresh c).Start) c.requires.0 g d.makes)
+    omega (arith, granted_fresh (held (goal.at.overflow_add-fresh c).Start) c.requires.0 g d.makes)
 
 pub returns : goal.returns
 unfolding done put

@@ -1,5 +1,5 @@
 -- A payload is zero: the bytes passed so far are. The measure is what is left of it. Assumes nothing.
-use Rattle.record.proofs.Laws.{zeros-more}
+use Rattle.record.proofs.Laws.{zeros_more}
 use Rattle.table.specs.Bytes.{zeros}
 use Rattle.table.specs.Rows.{payload_bytes}
 use borrow.Author.Rules.{rules}
@@ -20,7 +20,7 @@ loop-k-preserved c =
     let payload = c.args.payload in
     let k = c.loop-k.k in (
       omega arith,
-      ap (λ (t : Bool). t && eqb (get_or payload k 0) 0) c.loop-k.invariant.1 ∙ sym (zeros-more payload k (search rules)),
+      ap (λ (t : Bool). t && eqb (get_or payload k 0) 0) c.loop-k.invariant.1 ∙ sym (zeros_more payload k (search rules)),
     )
 
 pub returns : goal.returns

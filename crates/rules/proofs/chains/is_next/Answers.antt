@@ -1,6 +1,6 @@
 -- An epoch of 0 is no other plus 1. Assumes nothing.
 use Prim.Native.Nat.{◌+◌}
-use Rattle.rules.proofs.Downward.{next-is}
+use Rattle.rules.proofs.Downward.{next_is}
 use borrow.Author.Tests.{ne_eqb}
 use mathlib.Core.Path.{sym}
 use native.Mathlib.Omega.{arith}
@@ -14,4 +14,4 @@ returns-then-e-lt-STEP c =
 pub returns : goal.returns
 returns c =
     let a = c.args in
-    next-is a.e.0 a.before.0 (omega (arith, c.if-e-lt-STEP.false))
+    next_is a.e.0 a.before.0 (omega (arith, c.if-e-lt-STEP.false))

@@ -2,7 +2,7 @@
 use Prim.Native.Nat.{ℕ, ◌<◌}
 use Rattle.pala.specs.Rules.{shared}
 use Rattle.rules.proofs.Agreed.{raised, stays}
-use Rattle.table.proofs.Laws.{not-both}
+use Rattle.table.proofs.Laws.{not_both}
 use mathlib.Core.Path.{◌≡◌, ap, sym, ◌∙◌}
 use native.Mathlib.Omega.{arith}
 use Rattle.rules.proofs.clocks.better.Goals as goal
@@ -30,7 +30,7 @@ returns-then-c-best c =
 pub returns-then-not-shared_past : goal.returns-then-not-shared_past
 returns-then-not-shared_past c =
     ap (λ (e : ℕ). record { 0 = e })
-    (sym (stays c.args.best.0 c.args.c.0 _ (λ y. absurd (not-both y (sym (shared-is (goal.at.returns-then-not-shared_past c).After-shared_past) ∙ c.if-not-shared_past.true)))))
+    (sym (stays c.args.best.0 c.args.c.0 _ (λ y. absurd (not_both y (sym (shared-is (goal.at.returns-then-not-shared_past c).After-shared_past) ∙ c.if-not-shared_past.true)))))
 
 pub returns : goal.returns
 returns c =

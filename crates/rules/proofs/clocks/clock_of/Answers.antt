@@ -1,6 +1,6 @@
 -- The best of the local epoch and the clocks passed. The measure is the nodes that are left. Assumes nothing.
 use Prim.Native.Nat.{ℕ, max}
-use Rattle.pala.proofs.Clocks.{unshared-above}
+use Rattle.pala.proofs.Clocks.{unshared_above}
 use Rattle.pala.specs.Counts.{clock_of}
 use Rattle.pala.specs.Rules.{shared}
 use Rattle.rules.proofs.Agreed.{agreed-held, best_of}
@@ -21,7 +21,7 @@ held c = search
 pub returns-then-not-shared_past : goal.returns-then-not-shared_past
 returns-then-not-shared_past c =
     let a = c.args in
-    let few = unshared-above a.n a.clocks a.local.0 (sym c.shared_past.ensures ∙ c.if-not-shared_past.true) in
+    let few = unshared_above a.n a.clocks a.local.0 (sym c.shared_past.ensures ∙ c.if-not-shared_past.true) in
     ap (λ (e : ℕ). record { 0 = e }) (omega (arith, few))
 
 pub loop-k-init : goal.loop-k-init

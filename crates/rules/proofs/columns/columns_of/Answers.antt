@@ -1,8 +1,8 @@
 -- The columns so far: below k the rows', from there on the root's. The measure is the rows that are left. Assumes nothing.
 use Prim.Native.Nat.{◌≤◌, ◌<◌}
 use Rattle.pala.specs.Counts.{quorum}
-use Rattle.rules.proofs.Cells.{length-made}
-use Rattle.rules.proofs.Shown.{column-start, column-step, columns-made}
+use Rattle.rules.proofs.Cells.{length_made}
+use Rattle.rules.proofs.Shown.{column_start, column_step, columns_made}
 use Rattle.rules.specs.Columns.{places}
 use Rattle.table.proofs.Laws.{size-rows}
 use Rattle.table.specs.Rows.{votes}
@@ -26,22 +26,22 @@ loop-k-init c =
     let has : Block → Bool = λ b. leb (quorum a.n) (votes b) in (
       omega arith,
       omega arith,
-      column-start a h (λ b. b.parent.0) _ _ refl,
-      column-start a h (λ b. b.epoch.0) _ _ refl,
-      column-start a h has _ _ (c.enough-mark.ensures ∙ ap (leb (quorum a.n)) c.votes.ensures),
+      column_start a h (λ b. b.parent.0) _ _ refl,
+      column_start a h (λ b. b.epoch.0) _ _ refl,
+      column_start a h has _ _ (c.enough-mark.ensures ∙ ap (leb (quorum a.n)) c.votes.ensures),
     )
 
 pub bounds-parents-i : goal.bounds-parents-i
 bounds-parents-i c =
-    omega (arith, length-made _ _ _ c.loop-k.invariant.2)
+    omega (arith, length_made _ _ _ c.loop-k.invariant.2)
 
 pub bounds-epochs-i : goal.bounds-epochs-i
 bounds-epochs-i c =
-    omega (arith, length-made _ _ _ c.loop-k.invariant.3)
+    omega (arith, length_made _ _ _ c.loop-k.invariant.3)
 
 pub bounds-marks-i : goal.bounds-marks-i
 bounds-marks-i c =
-    omega (arith, length-made _ _ _ c.loop-k.invariant.4)
+    omega (arith, length_made _ _ _ c.loop-k.invariant.4)
 
 pub loop-k-preserved : goal.loop-k-preserved
 loop-k-preserved c =
@@ -53,13 +53,13 @@ loop-k-preserved c =
     let in-column : k < places = omega arith in (
       omega arith,
       omega arith,
-      column-step a h (λ b. b.parent.0) _ k _ _ in_rows in-column c.loop-k.invariant.2 refl,
-      column-step a h (λ b. b.epoch.0) _ k _ _ in_rows in-column c.loop-k.invariant.3 refl,
-      column-step a h has _ k _ _ in_rows in-column c.loop-k.invariant.4
+      column_step a h (λ b. b.parent.0) _ k _ _ in_rows in-column c.loop-k.invariant.2 refl,
+      column_step a h (λ b. b.epoch.0) _ k _ _ in_rows in-column c.loop-k.invariant.3 refl,
+      column_step a h has _ k _ _ in_rows in-column c.loop-k.invariant.4
           (c.enough.ensures ∙ ap (leb (quorum a.n)) c.votes-in-loop-k.ensures),
     )
 
 pub returns : goal.returns
 returns c =
     let h = held (goal.at.returns c).Start in
-    columns-made c.args.s h _ _ _ c.loop-k.k _ (omega arith) (omega (arith, size-rows c.args.s)) c.loop-k.invariant.2 c.loop-k.invariant.3 c.loop-k.invariant.4
+    columns_made c.args.s h _ _ _ c.loop-k.k _ (omega arith) (omega (arith, size-rows c.args.s)) c.loop-k.invariant.2 c.loop-k.invariant.3 c.loop-k.invariant.4

@@ -1,7 +1,7 @@
 -- The block's epoch, then the bar, then the parent's firmness. Assumes nothing.
 use Prim.Native.Nat.{ℕ, ◌≤◌, ◌<◌}
 use Rattle.pala.specs.Rules.{lower}
-use Rattle.rules.proofs.Searches.{open-barred, open-firm, open-other}
+use Rattle.rules.proofs.Searches.{open_barred, open_firm, open_other}
 use Rattle.rules.specs.Columns.{firm_by, mark_at, number_at}
 use Rattle.table.specs.declared.Epoch.{Epoch}
 use Rattle.table.specs.declared.Place.{Place}
@@ -27,13 +27,13 @@ pub returns-then-e-local : goal.returns-then-e-local
 returns-then-e-local c =
     let a = c.args in
     sym
-    (open-other _ _ _ a.local.0 a.bar.0 a.p.0 (λ e. c.if-e-local.true (epoch-is (goal.at.returns-then-e-local c).After-epoch_at-e ∙ e)))
+    (open_other _ _ _ a.local.0 a.bar.0 a.p.0 (λ e. c.if-e-local.true (epoch-is (goal.at.returns-then-e-local c).After-epoch_at-e ∙ e)))
 
 pub returns-then-before-bar : goal.returns-then-before-bar
 returns-then-before-bar c =
     let a = c.args in
     sym
-    (open-barred _ _ _ a.local.0 a.bar.0 a.p.0
+    (open_barred _ _ _ a.local.0 a.bar.0 a.p.0
     (subst (λ (e : ℕ). e < a.bar.0) (parent_is (goal.at.returns-then-before-bar c).After-epoch_at-before) c.if-before-bar.true))
 
 pub returns : goal.returns
@@ -42,5 +42,5 @@ returns c =
     c.firm.ensures
     ∙ ap (λ (q : Place). firm_by (number_at a.parents.now) (mark_at a.marks.now) q.0) c.lower_at-parent.ensures
     ∙ sym
-    (open-firm _ _ _ a.local.0 a.bar.0 a.p.0 (sym (epoch-is (goal.at.returns c).After-epoch_at-e) ∙ c.if-e-local.false)
+    (open_firm _ _ _ a.local.0 a.bar.0 a.p.0 (sym (epoch-is (goal.at.returns c).After-epoch_at-e) ∙ c.if-e-local.false)
     (subst (λ (e : ℕ). a.bar.0 ≤ e) (parent_is (goal.at.returns c).After-epoch_at-before) c.if-before-bar.false))

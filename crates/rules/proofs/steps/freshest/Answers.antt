@@ -1,5 +1,5 @@
 -- The freshest of the columns, and its epoch there. Assumes nothing.
-use Rattle.rules.proofs.Shown.{top-shown}
+use Rattle.rules.proofs.Shown.{top_shown}
 use Rattle.rules.specs.Columns.{places}
 use borrow.Author.Rules.{rules}
 use lib.ListN.{length}
@@ -12,4 +12,4 @@ held c = search rules
 
 pub returns : goal.returns
 returns c =
-    top-shown c.args.s (held (goal.at.returns c).Start) _ c.columns_of-c.ensures _ _ c.tops_of-tops.ensures c.epoch_at.ensures
+    top_shown c.args.s (held (goal.at.returns c).Start) _ c.columns_of-c.ensures _ _ c.tops_of-tops.ensures c.epoch_at.ensures

@@ -1,7 +1,7 @@
 -- No row has the name of one below it: none of the pairs passed was alike, those with two keys by their keys.
 -- The measure counts what is left of the places p, and within one of the places below it. Assumes nothing.
 use Prim.Native.Nat.{ℕ, suc, ◌≤◌, ◌<◌}
-use Rattle.shape.proofs.Laws.{differ, marked, names-all, names-fail, names-of-rows, next-from, next_le, passed, unmarked}
+use Rattle.shape.proofs.Laws.{differ, marked, names_all, names_fail, names_of_rows, next_from, next_le, passed, unmarked}
 use Rattle.table.specs.Bytes.{same}
 use Rattle.table.specs.Rows.{at, capacity, rows}
 use borrow.Author.Count.{below_more}
@@ -32,7 +32,7 @@ found : (c : After-next_like-q)
     → (c.loop-p.q ≤ c.next_like-q.result.0) × (c.next_like-q.result.0 ≤ c.loop-p.p)
 found c =
     let keys = c.keys_of-keys.result in
-    (omega (arith, c.next_like-q.ensures, next-from keys c.loop-p.q c.loop-p.p (omega arith)), omega (arith, c.next_like-q.ensures, next_le keys c.loop-p.q c.loop-p.p))
+    (omega (arith, c.next_like-q.ensures, next_from keys c.loop-p.q c.loop-p.p (omega arith)), omega (arith, c.next_like-q.ensures, next_le keys c.loop-p.q c.loop-p.p))
 
 -- a place that the search finds and that is not p is lower
 lower : (c : Else-q-p) → c.next_like-q.result.0 < c.loop-p.p
@@ -45,7 +45,7 @@ compared : (c : After-same_name)
 compared c =
     let h = held c.before.before.before.before.before.before.before.before.before.before.before.before in
     let k = found c.before.before.before.before.before.before in
-    c.same_name.ensures ∙ names-of-rows c.args.s c.next_like-q.result.0 c.loop-p.p _ _ (omega arith) (omega arith) (omega arith)
+    c.same_name.ensures ∙ names_of_rows c.args.s c.next_like-q.result.0 c.loop-p.p _ _ (omega arith) (omega arith) (omega arith)
 
 pub loop-p-init : goal.loop-p-init
 loop-p-init c = (omega arith, omega arith, refl, λ i m. absurd (omega arith), λ j m. absurd (omega arith), λ i m. absurd (omega arith))
@@ -93,7 +93,7 @@ bounds-s-j c = omega (arith, held (goal.at.bounds-s-j c).Start)
 
 pub returns-then-same_name : goal.returns-then-same_name
 returns-then-same_name c =
-    sym (names-fail _ c.loop-p.p c.next_like-q.result.0 (omega arith) (lower (goal.at.returns-then-same_name c).Else-q-p) (sym (compared (goal.at.returns-then-same_name c).After-same_name) ∙ c.if-same_name.true))
+    sym (names_fail _ c.loop-p.p c.next_like-q.result.0 (omega arith) (lower (goal.at.returns-then-same_name c).Else-q-p) (sym (compared (goal.at.returns-then-same_name c).After-same_name) ∙ c.if-same_name.true))
 
 pub overflow_add-q : goal.overflow_add-q
 overflow_add-q c =
@@ -108,4 +108,4 @@ loop-p-preserved c =
     (omega (arith, lower (goal.at.loop-p-preserved c).Else-q-p), omega arith, omega arith, c.loop-p.invariant.3, c.loop-p.invariant.4, below_more _ _ (over (goal.at.loop-p-preserved c).After-next_like-q) (sym (compared (goal.at.loop-p-preserved c).After-same_name) ∙ c.if-same_name.false))
 
 pub returns : goal.returns
-returns c = sym (names-all _ (λ p q l m. c.loop-p.invariant.4 p (omega arith) q m))
+returns c = sym (names_all _ (λ p q l m. c.loop-p.invariant.4 p (omega arith) q m))

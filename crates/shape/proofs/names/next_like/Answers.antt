@@ -1,6 +1,6 @@
 -- The first place from `from` on with p's key: none passed has it. The search ends at p, so the measure is what is left up to p. Assumes nothing.
 use Prim.Native.Nat.{ℕ, ◌<◌}
-use Rattle.shape.proofs.Laws.{next-is}
+use Rattle.shape.proofs.Laws.{next_is}
 use borrow.Author.Count.{below_more}
 use lib.ListN.{get_or}
 use mathlib.Core.Path.{◌≡◌, ap, sym}
@@ -20,7 +20,7 @@ loop-end-init c = (omega arith, omega arith, λ i m l. absurd (omega arith))
 
 pub returns-then-keys-i : goal.returns-then-keys-i
 returns-then-keys-i c =
-    sym (next-is _ _ _ c.loop-end.q (omega arith) (omega arith) c.if-keys-i.true (λ i k m. c.loop-end.invariant.2 i m k))
+    sym (next_is _ _ _ c.loop-end.q (omega arith) (omega arith) c.if-keys-i.true (λ i k m. c.loop-end.invariant.2 i m k))
 
 pub overflow_add-q : goal.overflow_add-q
 overflow_add-q c = omega (arith, short (goal.at.overflow_add-q c).Else-keys-i)

@@ -1,8 +1,8 @@
 -- A row of zeros: field by field. Assumes nothing.
-use Rattle.pala.proofs.Shapes.{blank_of, blank-tests}
+use Rattle.pala.proofs.Shapes.{blank_of, blank_tests}
 use Rattle.pala.specs.Shape.{is_blank, no_voters}
-use Rattle.shape.proofs.Laws.{voters-none}
-use Rattle.table.proofs.Laws.{fails, not-both, same_test}
+use Rattle.shape.proofs.Laws.{voters_none}
+use Rattle.table.proofs.Laws.{fails, not_both, same_test}
 use Rattle.table.specs.Rows.{most_nodes}
 use borrow.Author.Rules.{rules}
 use lib.ListN.{length}
@@ -14,22 +14,22 @@ held : (c : Start) → length c.args.b.voters ≡ most_nodes
 held c = search rules
 
 pub returns-then-not-no_bytes : goal.returns-then-not-no_bytes
-returns-then-not-no_bytes c = sym (fails _ (λ h. not-both (blank-tests _ h).name (sym c.no_bytes.ensures ∙ c.if-not-no_bytes.true)))
+returns-then-not-no_bytes c = sym (fails _ (λ h. not_both (blank_tests _ h).name (sym c.no_bytes.ensures ∙ c.if-not-no_bytes.true)))
 
 pub returns-then-not-no_bytes-2 : goal.returns-then-not-no_bytes-2
-returns-then-not-no_bytes-2 c = sym (fails _ (λ h. not-both (blank-tests _ h).payload (sym c.no_bytes-2.ensures ∙ c.if-not-no_bytes-2.true)))
+returns-then-not-no_bytes-2 c = sym (fails _ (λ h. not_both (blank_tests _ h).payload (sym c.no_bytes-2.ensures ∙ c.if-not-no_bytes-2.true)))
 
 pub returns-then-b-ne0 : goal.returns-then-b-ne0
-returns-then-b-ne0 c = sym (fails _ (λ h. c.if-b-ne0.true (blank-tests _ h).epoch))
+returns-then-b-ne0 c = sym (fails _ (λ h. c.if-b-ne0.true (blank_tests _ h).epoch))
 
 pub returns-then-b-ne0-2 : goal.returns-then-b-ne0-2
-returns-then-b-ne0-2 c = sym (fails _ (λ h. c.if-b-ne0-2.true (blank-tests _ h).parent))
+returns-then-b-ne0-2 c = sym (fails _ (λ h. c.if-b-ne0-2.true (blank_tests _ h).parent))
 
 pub returns : goal.returns
 returns c =
     let b = c.args.b in
     c.voters_ok.ensures
-    ∙ voters-none b (held (goal.at.returns c).Start)
+    ∙ voters_none b (held (goal.at.returns c).Start)
     ∙ same_test (no_voters b.voters) (is_blank b)
     (λ v.
     blank_of b
@@ -40,4 +40,4 @@ returns c =
       epoch = c.if-b-ne0.false;
       parent = c.if-b-ne0-2.false;
     }))
-    (λ h. (blank-tests b h).voters)
+    (λ h. (blank_tests b h).voters)

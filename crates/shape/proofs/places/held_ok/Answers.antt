@@ -1,7 +1,7 @@
 -- The blocks held are in order: each passed was. The measure is what is left of them. Assumes nothing.
 use Prim.Native.Nat.{suc}
 use Rattle.pala.specs.Rules.{epoch_at}
-use Rattle.shape.proofs.Laws.{held_all, held-fails, row-order, row_up}
+use Rattle.shape.proofs.Laws.{held_all, held_fails, row_order, row_up}
 use Rattle.shape.specs.Parts.{row_ok}
 use Rattle.table.proofs.Laws.{at_rows}
 use Rattle.table.specs.Rows.{capacity, rows}
@@ -26,7 +26,7 @@ row c =
     let s = c.args.s in
     let h = held c.before.before.before.before.before in
     c.in_order.ensures
-    ∙ sym (row-order s.n (rows s) c.loop-p.p _ (sym (at_rows s c.loop-p.p _ (omega arith) (omega arith))) _
+    ∙ sym (row_order s.n (rows s) c.loop-p.p _ (sym (at_rows s c.loop-p.p _ (omega arith) (omega arith))) _
     (ap (λ (b : Block). b.epoch.0) (sym (at_rows s _ _ (omega arith) (omega arith)))) (omega arith))
 
 pub loop-p-init : goal.loop-p-init
@@ -39,7 +39,7 @@ pub returns-then-p-up : goal.returns-then-p-up
 returns-then-p-up c =
     let s = c.args.s in
     let h = held (goal.at.returns-then-p-up c).Start in
-    sym (held-fails s c.loop-p.p (omega arith) (omega arith)
+    sym (held_fails s c.loop-p.p (omega arith) (omega arith)
     (row_up s.n (rows s) c.loop-p.p _ (sym (at_rows s c.loop-p.p _ (omega arith) (omega arith))) c.if-p-up.true))
 
 pub bounds-s-j : goal.bounds-s-j
@@ -47,7 +47,7 @@ bounds-s-j c = omega (arith, held (goal.at.bounds-s-j c).Start)
 
 pub returns-then-not-in_order : goal.returns-then-not-in_order
 returns-then-not-in_order c =
-    sym (held-fails _ c.loop-p.p (omega arith) (omega arith) (sym (row (goal.at.returns-then-not-in_order c).After-in_order) ∙ c.if-not-in_order.true))
+    sym (held_fails _ c.loop-p.p (omega arith) (omega arith) (sym (row (goal.at.returns-then-not-in_order c).After-in_order) ∙ c.if-not-in_order.true))
 
 pub loop-p-preserved : goal.loop-p-preserved
 loop-p-preserved c =

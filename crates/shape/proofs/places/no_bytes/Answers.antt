@@ -1,6 +1,6 @@
 -- Every byte is zero: so far each was. The measure is what is left of the bytes. Assumes nothing.
 use Prim.Native.Nat.{ℕ, zero-le}
-use Rattle.shape.proofs.Laws.{zeros-below}
+use Rattle.shape.proofs.Laws.{zeros_below}
 use Rattle.table.proofs.Laws.{all_below-step}
 use Rattle.table.specs.Scan.{all_below}
 use lib.Dec.{eqb}
@@ -24,4 +24,4 @@ pub returns : goal.returns
 returns c =
     let bytes = c.args.bytes.now in
     let end : c.loop-i.i ≡ length bytes = omega arith in
-    c.loop-i.invariant.1 ∙ ap (λ (k : ℕ). all_below k (λ j. eqb (get_or bytes j 0) 0)) end ∙ sym (zeros-below bytes)
+    c.loop-i.invariant.1 ∙ ap (λ (k : ℕ). all_below k (λ j. eqb (get_or bytes j 0) 0)) end ∙ sym (zeros_below bytes)

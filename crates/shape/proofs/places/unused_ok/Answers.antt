@@ -1,7 +1,7 @@
 -- The places that hold no block are all zero: the genesis's, and each passed. The measure is what is left of them. Assumes nothing.
 use Prim.Native.Nat.{ℕ, suc}
 use Rattle.pala.specs.Shape.{is_blank}
-use Rattle.shape.proofs.Laws.{unused-all, unused-fails}
+use Rattle.shape.proofs.Laws.{unused_all, unused_fails}
 use Rattle.table.proofs.Laws.{get_d_any}
 use Rattle.table.specs.Rows.{blank, capacity}
 use borrow.Author.Count.{below_more}
@@ -31,7 +31,7 @@ pub bounds-s-0 : goal.bounds-s-0
 bounds-s-0 c = omega (arith, held (goal.at.bounds-s-0 c).Start)
 
 pub returns-then-not-blank_row : goal.returns-then-not-blank_row
-returns-then-not-blank_row c = sym (unused-fails _ 0 (inl refl) (omega arith) (sym (root (goal.at.returns-then-not-blank_row c).After-blank_row) ∙ c.if-not-blank_row.true))
+returns-then-not-blank_row c = sym (unused_fails _ 0 (inl refl) (omega arith) (sym (root (goal.at.returns-then-not-blank_row c).After-blank_row) ∙ c.if-not-blank_row.true))
 
 pub loop-p-init : goal.loop-p-init
 loop-p-init c =
@@ -46,11 +46,11 @@ bounds-s-i c = omega (arith, held (goal.at.bounds-s-i c).Start)
 
 pub returns-then-not-blank_row-2 : goal.returns-then-not-blank_row-2
 returns-then-not-blank_row-2 c =
-    sym (unused-fails _ c.loop-p.p (inr (omega arith)) (omega arith) (sym (row (goal.at.returns-then-not-blank_row-2 c).After-blank_row-in-loop-p) ∙ c.if-not-blank_row-2.true))
+    sym (unused_fails _ c.loop-p.p (inr (omega arith)) (omega arith) (sym (row (goal.at.returns-then-not-blank_row-2 c).After-blank_row-in-loop-p) ∙ c.if-not-blank_row-2.true))
 
 pub loop-p-preserved : goal.loop-p-preserved
 loop-p-preserved c =
     (omega arith, omega arith, below_more _ _ c.loop-p.invariant.2 (λ u. sym (row (goal.at.loop-p-preserved c).After-blank_row-in-loop-p) ∙ c.if-not-blank_row-2.false))
 
 pub returns : goal.returns
-returns c = sym (unused-all _ (λ p u l. c.loop-p.invariant.2 p (omega arith) u))
+returns c = sym (unused_all _ (λ p u l. c.loop-p.invariant.2 p (omega arith) u))

@@ -1,5 +1,5 @@
 -- Two names are the same: no byte passed differs. The measure is what is left of the name. Assumes nothing.
-use Rattle.table.proofs.Laws.{same-all, same_differs}
+use Rattle.table.proofs.Laws.{same_all, same_differs}
 use Rattle.table.specs.Rows.{name_bytes}
 use borrow.Author.Count.{below_more}
 use borrow.Author.Rules.{rules}
@@ -17,4 +17,4 @@ pub loop-k-preserved : goal.loop-k-preserved
 loop-k-preserved c = (omega arith, below_more _ _ c.loop-k.invariant.1 c.if-a-i.false)
 
 pub returns : goal.returns
-returns c = sym (same-all _ _ name_bytes (search rules) (search rules) (λ i l. c.loop-k.invariant.1 i (omega arith)))
+returns c = sym (same_all _ _ name_bytes (search rules) (search rules) (λ i l. c.loop-k.invariant.1 i (omega arith)))

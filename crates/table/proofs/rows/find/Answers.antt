@@ -1,6 +1,6 @@
 -- The place of a name: no row passed has it. The measure is the rows that are left. Assumes nothing.
 use Prim.Native.Nat.{suc}
-use Rattle.table.proofs.Laws.{at-past, at_rows, find-is, find_none, found-is, same_differs, size-rows}
+use Rattle.table.proofs.Laws.{at-past, at_rows, find-is, find_none, found_is, same_differs, size-rows}
 use Rattle.table.specs.Bytes.{same}
 use Rattle.table.specs.Rows.{capacity, rows, size}
 use Rattle.table.specs.declared.Block.{Block}
@@ -36,7 +36,7 @@ returns-then-same_name c =
     let h = held (goal.at.returns-then-same_name c).Start in
     let there = at_rows c.args.s c.loop-k.k _ (omega arith) (omega arith) in
     let here = ap (λ (b : Block). same b.name c.args.name) there ∙ sym c.same_name.ensures ∙ c.if-same_name.true in
-    found-is _ _ _ _ (find-is _ _ c.loop-k.k (omega (arith, ends (goal.at.returns-then-same_name c).After-size_of-end)) here c.loop-k.invariant.1) there
+    found_is _ _ _ _ (find-is _ _ c.loop-k.k (omega (arith, ends (goal.at.returns-then-same_name c).After-size_of-end)) here c.loop-k.invariant.1) there
 
 pub loop-k-preserved : goal.loop-k-preserved
 loop-k-preserved c =
@@ -50,4 +50,4 @@ pub returns : goal.returns
 returns c =
     let e = ends (goal.at.returns c).After-size_of-end in
     let h = held (goal.at.returns c).Start in
-    found-is _ _ _ _ (find_none _ _ (λ i m. c.loop-k.invariant.1 i (omega arith)) ∙ sym e) (at-past _ _ _ (omega arith) (omega arith))
+    found_is _ _ _ _ (find_none _ _ (λ i m. c.loop-k.invariant.1 i (omega arith)) ∙ sym e) (at-past _ _ _ (omega arith) (omega arith))

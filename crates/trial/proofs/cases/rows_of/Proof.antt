@@ -42,8 +42,8 @@ loop-again c = search rules
 returns : tie.Need-returns invariant-loop decreases-loop
 returns c = search rules
 
-pub rows-of-spec : {M : Type 1} → statement M
-rows-of-spec =
+pub rows_of_spec : {M : Type 1} → statement M
+rows_of_spec =
     tie.close
     (tie.spec
     invariant-loop

@@ -36,8 +36,8 @@ loop-again c = search rules
 returns : tie.Need-returns invariant-loop decreases-loop
 returns c = search rules
 
-pub voters-at-spec : {M : Type 1} → statement M
-voters-at-spec =
+pub voters_at_spec : {M : Type 1} → statement M
+voters_at_spec =
     tie.close
     (tie.spec
     invariant-loop

@@ -35,8 +35,8 @@ loop-again c = search rules
 returns : tie.Need-returns invariant-loop decreases-loop
 returns c = search rules
 
-pub put-bytes-spec : {M : Type 1} → statement M
-put-bytes-spec =
+pub put-bytes_spec : {M : Type 1} → statement M
+put-bytes_spec =
     tie.close
     (tie.spec
     invariant-loop

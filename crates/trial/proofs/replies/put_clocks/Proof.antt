@@ -43,8 +43,8 @@ loop-again c = search rules
 returns : tie.Need-returns invariant-loop decreases-loop
 returns c = search rules
 
-pub put-clocks-spec : {M : Type 1} → statement M
-put-clocks-spec =
+pub put_clocks_spec : {M : Type 1} → statement M
+put_clocks_spec =
     tie.close
     (tie.spec
     invariant-loop

@@ -46,8 +46,8 @@ put-number-requires-2 c κs = search rules
 returns : tie.Need-returns
 returns c = search rules
 
-pub put-row-spec : {M : Type 1} → statement M
-put-row-spec =
+pub put-row_spec : {M : Type 1} → statement M
+put-row_spec =
     tie.close
     (tie.spec
     slice-aggregate-put-bytes

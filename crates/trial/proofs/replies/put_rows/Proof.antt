@@ -40,8 +40,8 @@ loop-again c = search rules
 returns : tie.Need-returns invariant-loop decreases-loop
 returns c = search rules
 
-pub put-rows-spec : {M : Type 1} → statement M
-put-rows-spec =
+pub put-rows_spec : {M : Type 1} → statement M
+put-rows_spec =
     tie.close
     (tie.spec
     invariant-loop

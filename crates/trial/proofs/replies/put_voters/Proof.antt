@@ -37,8 +37,8 @@ loop-again c = search rules
 returns : tie.Need-returns invariant-loop decreases-loop
 returns c = search rules
 
-pub put-voters-spec : {M : Type 1} → statement M
-put-voters-spec =
+pub put_voters_spec : {M : Type 1} → statement M
+put_voters_spec =
     tie.close
     (tie.spec
     invariant-loop
