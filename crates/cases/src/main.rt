@@ -19,9 +19,10 @@ mod tells;
 mod told;
 
 use calls::begun;
-use libc::STDIN_FILENO;
+use intake::read_full;
 use orders::{idle, read};
 use records::{RECORD_BYTES, at_hand};
+use std::io;
 use tallies::{none, tallied};
 use tells::{KEEP, moved, say};
 
@@ -29,30 +30,31 @@ use tells::{KEEP, moved, say};
 const SCRIPT_BYTES: usize = 65536;
 
 // Plays each order as it closes: the record at hand, the tally, the state kept aside, the state.
-fn play(script: &[u8]) {
+fn play(rt: &impl Print, script: &[u8]) -> io::Result<()> {
     let mut order = idle();
     let mut rec = [0; RECORD_BYTES];
     let mut tally = none();
     let mut kept = begun(0, 0);
     let mut now = kept;
     for i in 0..script.len() {
-        order = read(order, script[i]);
+        order = read(rt, order, script[i])?;
         if order.closed {
             let named = at_hand(rec, order);
             rec = named;
-            tally = tallied(tally, now, rec, order);
+            tally = tallied(rt, tally, now, rec, order)?;
             if order.word == KEEP {
                 kept = now;
             }
-            now = moved(now, kept, rec, order);
-            say(now, kept, rec, order);
+            now = moved(rt, now, kept, rec, order)?;
+            say(rt, now, kept, rec, order)?;
             order = idle();
         }
     }
+    Ok(())
 }
 
-fn main() {
+fn main(rt: HostRuntime) -> io::Result<()> {
     let mut script = [0u8; SCRIPT_BYTES];
-    let got = io::read_full(STDIN_FILENO, &mut script);
-    play(&script[..got]);
+    let got = read_full(&mut rt.stdin(), &mut script)?;
+    play(&rt, &script[..got])
 }

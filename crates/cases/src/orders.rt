@@ -1,6 +1,7 @@
 // The orders of a script. What stands outside of them is printed as it stands.
 
 use crate::say::echo;
+use std::io;
 use std::num::wrapping_add_u32;
 
 // `[..]` is an order that prints, `#..` and the line's end one that doesn't.
@@ -68,12 +69,12 @@ pub fn idle() -> Order {
 }
 
 // A byte between orders.
-fn between(byte: u8) -> Order {
+fn between(rt: &impl Print, byte: u8) -> io::Result<Order> {
     match byte {
-        LOUD | QUIET | TOLD_SWEEP | SWEEP => fresh(byte),
+        LOUD | QUIET | TOLD_SWEEP | SWEEP => Ok(fresh(byte)),
         _ => {
-            echo(byte);
-            idle()
+            echo(rt, byte)?;
+            Ok(idle())
         }
     }
 }
@@ -122,17 +123,17 @@ fn marked(o: Order, word: u8, closed: bool) -> Order {
 }
 
 // The order after a byte more.
-pub fn read(o: Order, byte: u8) -> Order {
+pub fn read(rt: &impl Print, o: Order, byte: u8) -> io::Result<Order> {
     if o.opener == TEXT {
-        return between(byte);
+        return between(rt, byte);
     }
     match byte {
-        b']' | b')' | b'\n' => marked(o, o.word, true),
+        b']' | b')' | b'\n' => Ok(marked(o, o.word, true)),
         _ => {
             if o.word == NO_WORD {
-                marked(o, byte, false)
+                Ok(marked(o, byte, false))
             } else {
-                heard(o, byte)
+                Ok(heard(o, byte))
             }
         }
     }

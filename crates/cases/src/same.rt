@@ -30,8 +30,8 @@ fn same_block(a: Block, b: Block) -> bool {
     let payload_too = b.payload;
     let voters = a.voters;
     let voters_too = b.voters;
-    check::same(&name, &name_too)
-        & check::same(&payload, &payload_too)
+    (name == name_too)
+        & (payload == payload_too)
         & same_voters(voters, voters_too)
         & (a.epoch.0 == b.epoch.0)
         & (a.parent.0 == b.parent.0)

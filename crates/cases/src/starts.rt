@@ -5,6 +5,7 @@ use crate::same::same_state;
 use crate::say::{number, text, text_number};
 use lists::finals::final_list;
 use node::answers::number_of;
+use std::io;
 use table::{Block, CAPACITY, Epoch, MOST_NODES, NAME_BYTES, NodeNo, PAYLOAD_BYTES, Place, State};
 
 // Room for two names.
@@ -36,25 +37,32 @@ fn zeros() -> State {
 }
 
 // Says so where a state is all zero.
-pub fn tell_zero(s: State) {
+pub fn tell_zero(rt: &impl Print, s: State) -> io::Result<()> {
     if same_state(s, zeros()) {
-        text(b", all zero");
+        text(rt, b", all zero")?;
     }
+    Ok(())
 }
 
 // An answer, a count and whether the list is as it was.
-fn list_words(answer: u32, count: u32, same: bool) {
-    number(answer);
-    text_number(b", count ", count);
+fn list_words(rt: &impl Print, answer: u32, count: u32, same: bool) -> io::Result<()> {
+    number(rt, answer)?;
+    text_number(rt, b", count ", count)?;
     if same {
-        text(b", nothing written");
+        text(rt, b", nothing written")?;
     }
+    Ok(())
 }
 
 // "1 for a badly shaped state, .. nothing written"
-pub fn tell_list(s: State) {
+pub fn tell_list(rt: &impl Print, s: State) -> io::Result<()> {
     let mut list = [UNTOUCHED; LIST_BYTES];
     let got = final_list(s, &mut list);
     let answer = got.answer;
-    list_words(number_of(answer), got.count, throughout(&list, UNTOUCHED));
+    list_words(
+        rt,
+        number_of(answer),
+        got.count,
+        throughout(&list, UNTOUCHED),
+    )
 }

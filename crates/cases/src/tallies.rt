@@ -3,6 +3,7 @@
 use crate::orders::{Order, SWEEP, TOLD_SWEEP};
 use crate::say::{number, text_number};
 use crate::sweeps::swept;
+use std::io;
 use std::num::wrapping_add_u32;
 use table::State;
 
@@ -26,18 +27,24 @@ pub fn counted(t: Tally, good: bool) -> Tally {
 }
 
 // `GOOD of TRIED`, and a new tally begins.
-fn finished(t: Tally) -> Tally {
-    number(t.good);
-    text_number(b" of ", t.tried);
-    none()
+fn finished(rt: &impl Print, t: Tally) -> io::Result<Tally> {
+    number(rt, t.good)?;
+    text_number(rt, b" of ", t.tried)?;
+    Ok(none())
 }
 
 // The tally after an order: a sweep adds to it.
-pub fn tallied(t: Tally, s: State, rec: [u8; 96], order: Order) -> Tally {
+pub fn tallied(
+    rt: &impl Print,
+    t: Tally,
+    s: State,
+    rec: [u8; 96],
+    order: Order,
+) -> io::Result<Tally> {
     let opener = order.opener;
     match opener {
-        SWEEP => swept(t, s, rec, order),
-        TOLD_SWEEP => finished(swept(t, s, rec, order)),
-        _ => t,
+        SWEEP => Ok(swept(t, s, rec, order)),
+        TOLD_SWEEP => finished(rt, swept(t, s, rec, order)),
+        _ => Ok(t),
     }
 }

@@ -11,6 +11,7 @@ use crate::sweeps::started;
 use crate::tables::full;
 use crate::told::{finals, told};
 use lists::finals::final_count;
+use std::io;
 use table::State;
 
 // Puts the state aside; returns to it.
@@ -45,24 +46,30 @@ const QUORUM: u8 = b'q';
 const GATEWAY: u8 = b'g';
 
 // The state after a record, which is told where its order is loud.
-fn played(s: State, rec: [u8; 96], loud: bool) -> State {
+fn played(rt: &impl Print, s: State, rec: [u8; 96], loud: bool) -> io::Result<State> {
     if loud {
-        return told(s, rec);
+        return told(rt, s, rec);
     }
-    next(s, rec)
+    Ok(next(s, rec))
 }
 
 // The state after an order.
-pub fn moved(s: State, kept: State, rec: [u8; 96], order: Order) -> State {
+pub fn moved(
+    rt: &impl Print,
+    s: State,
+    kept: State,
+    rec: [u8; 96],
+    order: Order,
+) -> io::Result<State> {
     let word = order.word;
     let numbers = order.numbers;
     match word {
-        FIRST_KIND..=LAST_KIND => played(s, rec, order.opener == LOUD),
-        RETURN => kept,
-        START => begun(numbers[0], numbers[1]),
-        TABLE => full(numbers[0]),
-        FIELD => with_field(s, numbers[0], numbers[1]),
-        _ => s,
+        FIRST_KIND..=LAST_KIND => played(rt, s, rec, order.opener == LOUD),
+        RETURN => Ok(kept),
+        START => Ok(begun(numbers[0], numbers[1])),
+        TABLE => Ok(full(numbers[0])),
+        FIELD => Ok(with_field(s, numbers[0], numbers[1])),
+        _ => Ok(s),
     }
 }
 
@@ -73,43 +80,43 @@ fn sent(out: [u8; 96], at: u32) -> u32 {
 }
 
 // What is said of a call.
-fn say_call(kept: State, rec: [u8; 96], word: u8, at: u32) {
+fn say_call(rt: &impl Print, kept: State, rec: [u8; 96], word: u8, at: u32) -> io::Result<()> {
     let got = call(kept, rec);
     let out = got.out;
     match word {
-        ANSWER => number(got.answer),
-        OUT => number(sent(out, at)),
-        _ => {}
+        ANSWER => number(rt, got.answer),
+        OUT => number(rt, sent(out, at)),
+        _ => Ok(()),
     }
 }
 
 // What is said of the state.
-fn say_state(s: State, word: u8) {
+fn say_state(rt: &impl Print, s: State, word: u8) -> io::Result<()> {
     match word {
-        LOCAL => number(s.local.0),
-        BAR => number(s.bar.0),
-        COUNT => number(final_count(s)),
-        NAMES => finals(s),
-        WRITTEN => tell_list(s),
-        ZERO => tell_zero(s),
-        _ => {}
+        LOCAL => number(rt, s.local.0),
+        BAR => number(rt, s.bar.0),
+        COUNT => number(rt, final_count(s)),
+        NAMES => finals(rt, s),
+        WRITTEN => tell_list(rt, s),
+        ZERO => tell_zero(rt, s),
+        _ => Ok(()),
     }
 }
 
 // What is said of numbers alone.
-fn say_numbers(word: u8, a: u32, b: u32) {
+fn say_numbers(rt: &impl Print, word: u8, a: u32, b: u32) -> io::Result<()> {
     match word {
-        QUORUM => number(quorum_at(a)),
-        GATEWAY => number(started(a, b)),
-        _ => {}
+        QUORUM => number(rt, quorum_at(a)),
+        GATEWAY => number(rt, started(a, b)),
+        _ => Ok(()),
     }
 }
 
 // What an order says.
-pub fn say(s: State, kept: State, rec: [u8; 96], order: Order) {
+pub fn say(rt: &impl Print, s: State, kept: State, rec: [u8; 96], order: Order) -> io::Result<()> {
     let word = order.word;
     let numbers = order.numbers;
-    say_call(kept, rec, word, numbers[0]);
-    say_state(s, word);
-    say_numbers(word, numbers[0], numbers[1]);
+    say_call(rt, kept, rec, word, numbers[0])?;
+    say_state(rt, s, word)?;
+    say_numbers(rt, word, numbers[0], numbers[1])
 }

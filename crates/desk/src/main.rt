@@ -8,9 +8,10 @@ ghost use Rattle.std.specs.Prelude.{◌≤◌};
 use accord::Hall;
 use hall::heads::open;
 use hall::pieces::play;
-use libc::{STDIN_FILENO, STDOUT_FILENO};
+use intake::read_full;
 use lines::ends::put_setup;
 use node::answers::is_taken;
+use std::io::{self, Read, Write};
 
 // A piece of the recording: 2,048 records, each after its receiver's byte, and room for as many of the longest lines.
 const PIECE_BYTES: usize = 198656;
@@ -39,28 +40,33 @@ fn within(length: usize) -> usize
 }
 
 // Reads a piece, plays it and prints its lines.
-fn play_some(h: Hall, before: u64) -> Going {
+fn play_some(
+    reader: &mut impl Read,
+    writer: &mut impl Write,
+    h: Hall,
+    before: u64,
+) -> io::Result<Going> {
     let mut input = [0u8; PIECE_BYTES];
-    let got = io::read_full(STDIN_FILENO, &mut input);
+    let got = read_full(reader, &mut input)?;
     let mut text = [0u8; TEXT_BYTES];
     let played = play(h, before, &input[..got], &mut text);
     let length = within(played.length);
-    let written = io::write_all(STDOUT_FILENO, &text[..length]);
+    writer.write_all(&text[..length])?;
     let hall = played.hall;
-    Going {
+    Ok(Going {
         hall: hall,
         before: played.before,
-        more: written & (got == PIECE_BYTES),
-    }
+        more: got == PIECE_BYTES,
+    })
 }
 
 // A loop has to end, and nothing says that the input does: it counts its turns down from a number that no run uses up.
-fn play_all(h: Hall) {
+fn play_all(reader: &mut impl Read, writer: &mut impl Write, h: Hall) -> io::Result<()> {
     let mut t = h;
     let mut before: u64 = 0;
     let mut turns = u64::MAX;
     while turns > 0 {
-        let going = play_some(t, before);
+        let going = play_some(reader, writer, t, before)?;
         let u = going.hall;
         t = u;
         before = going.before;
@@ -69,27 +75,29 @@ fn play_all(h: Hall) {
         }
         turns -= 1;
     }
+    Ok(())
 }
 
 // "only `setup 15`"
-fn print_setup() {
+fn print_setup(writer: &mut impl Write) -> io::Result<()> {
     let mut line = [0u8; LINE_BYTES];
     let length = put_setup(&mut line);
     if LINE_BYTES < length {
-        return;
+        return Ok(());
     }
-    io::write_all(STDOUT_FILENO, &line[..length]);
+    writer.write_all(&line[..length])
 }
 
-fn main() {
+fn main(rt: HostRuntime) -> io::Result<()> {
+    let mut reader = rt.stdin();
+    let mut writer = rt.stdout();
     let mut head = [0u8; 2];
-    let got = io::read_full(STDIN_FILENO, &mut head);
+    let got = read_full(&mut reader, &mut head)?;
     let opened = open(&head[..got]);
     let answer = opened.answer;
     if !is_taken(answer) {
-        print_setup();
-        return;
+        return print_setup(&mut writer);
     }
     let h = opened.hall;
-    play_all(h);
+    play_all(&mut reader, &mut writer, h)
 }

@@ -5,11 +5,12 @@
 
 ghost use Rattle.std.specs.Prelude.{◌≤◌};
 
-use libc::{STDIN_FILENO, STDOUT_FILENO};
+use intake::read_full;
 use lines::ends::{put_end, put_setup};
 use lines::pieces::play;
 use node::answers::is_taken;
 use node::start;
+use std::io::{self, Read, Write};
 use table::State;
 
 // A piece of the recording: 512 records, and room for as many of the longest lines.
@@ -39,28 +40,33 @@ fn within(length: usize) -> usize
 }
 
 // Reads a piece, plays it and prints its lines.
-fn play_some(s: State, before: u64) -> Going {
+fn play_some(
+    reader: &mut impl Read,
+    writer: &mut impl Write,
+    s: State,
+    before: u64,
+) -> io::Result<Going> {
     let mut input = [0u8; PIECE_BYTES];
-    let got = io::read_full(STDIN_FILENO, &mut input);
+    let got = read_full(reader, &mut input)?;
     let mut text = [0u8; TEXT_BYTES];
     let played = play(s, before, &input[..got], &mut text);
     let length = within(played.length);
-    let written = io::write_all(STDOUT_FILENO, &text[..length]);
+    writer.write_all(&text[..length])?;
     let state = played.state;
-    Going {
+    Ok(Going {
         state: state,
         before: played.before,
-        more: written & (got == PIECE_BYTES),
-    }
+        more: got == PIECE_BYTES,
+    })
 }
 
 // A loop has to end, and nothing says that the input does: it counts its turns down from a number that no run uses up.
-fn play_all(s: State) -> u64 {
+fn play_all(reader: &mut impl Read, writer: &mut impl Write, s: State) -> io::Result<u64> {
     let mut t = s;
     let mut before: u64 = 0;
     let mut turns = u64::MAX;
     while turns > 0 {
-        let going = play_some(t, before);
+        let going = play_some(reader, writer, t, before)?;
         let u = going.state;
         t = u;
         before = going.before;
@@ -69,7 +75,7 @@ fn play_all(s: State) -> u64 {
         }
         turns -= 1;
     }
-    before
+    Ok(before)
 }
 
 // A byte among the numbers of 32 bits.
@@ -78,30 +84,30 @@ fn wide(b: u8) -> u32 {
 }
 
 // The first bytes of a line's buffer.
-fn print(line: [u8; LINE_BYTES], length: usize) {
+fn print(writer: &mut impl Write, line: [u8; LINE_BYTES], length: usize) -> io::Result<()> {
     if LINE_BYTES < length {
-        return;
+        return Ok(());
     }
-    io::write_all(STDOUT_FILENO, &line[..length]);
+    writer.write_all(&line[..length])
 }
 
-fn main() {
+fn main(rt: HostRuntime) -> io::Result<()> {
+    let mut reader = rt.stdin();
+    let mut writer = rt.stdout();
     let mut head = [0u8; 2];
-    let got = io::read_full(STDIN_FILENO, &mut head);
+    let got = read_full(&mut reader, &mut head)?;
     let reply = start(wide(head[0]), wide(head[1]));
     let answer = reply.answer;
     let mut line = [0u8; LINE_BYTES];
     let setup = put_setup(&mut line);
     if got < 2 {
-        print(line, setup);
-        return;
+        return print(&mut writer, line, setup);
     }
     if !is_taken(answer) {
-        print(line, setup);
-        return;
+        return print(&mut writer, line, setup);
     }
     let s = reply.state;
-    let count = play_all(s);
+    let count = play_all(&mut reader, &mut writer, s)?;
     let end = put_end(count, &mut line);
-    print(line, end);
+    print(&mut writer, line, end)
 }

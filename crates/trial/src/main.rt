@@ -8,33 +8,38 @@ mod cases;
 mod replies;
 
 use cases::CASE_BYTES;
-use libc::{STDIN_FILENO, STDOUT_FILENO};
+use intake::read_full;
 use replies::{REPLY_BYTES, reply_to};
+use std::io::{self, Read, Write};
 
-// Writes a reply; is it written whole.
-fn write(reply: &[u8; REPLY_BYTES]) -> bool {
-    io::write_all(STDOUT_FILENO, reply)
+// Writes a reply whole.
+fn write(writer: &mut impl Write, reply: &[u8; REPLY_BYTES]) -> io::Result<()> {
+    writer.write_all(reply)
 }
 
 // Reads a case and writes its reply; may there be another.
-fn try_one() -> bool {
+fn try_one(reader: &mut impl Read, writer: &mut impl Write) -> io::Result<bool> {
     let mut case = [0u8; CASE_BYTES];
-    let got = io::read_full(STDIN_FILENO, &mut case);
+    let got = read_full(reader, &mut case)?;
     if got != CASE_BYTES {
-        return false;
+        return Ok(false);
     }
     let mut reply = [0u8; REPLY_BYTES];
     reply_to(&case, &mut reply);
-    write(&reply)
+    write(writer, &reply)?;
+    Ok(true)
 }
 
 // A loop has to end, and nothing says that the input does: it counts its turns down from a number that no run uses up.
-fn main() {
+fn main(rt: HostRuntime) -> io::Result<()> {
+    let mut reader = rt.stdin();
+    let mut writer = rt.stdout();
     let mut turns = u64::MAX;
     while turns > 0 {
-        if !try_one() {
+        if !try_one(&mut reader, &mut writer)? {
             break;
         }
         turns -= 1;
     }
+    Ok(())
 }
