@@ -16,6 +16,7 @@ TOKEN = re.compile(r"(?<![\w'.-])" + NAME)
 BEHIND = re.compile(r"(?<=\.)" + NAME)
 OF_MODULE = re.compile(r"(?<=[A-Z])([\w']*\.)(" + NAME + ")")
 DECLARED = re.compile(r"\s*(?:(?:abbrev|unfoldable|pub) )*(" + NAME + r")(?:\s*:(?!=)\s*(.*))?$")
+ALIAS = re.compile(r"use \S+ as (" + NAME + r")$")
 MADE = re.compile(r"(?:invariant|decreases)-|\+")
 # Words of the library that lemmas here are named after.
 LIBRARY = """length append take drop map set get_or replicate min max not suc cond eqb ltb leb add mul sub fall le lt zero one""".split()
@@ -35,8 +36,11 @@ def read(path):
 
 
 def declared(path):
-    """The names that a file declares, but for those that Rattle asks for."""
+    """The names that a file declares, but for those that Rattle asks for; aliases of modules too."""
     for line in read(path).splitlines():
+        m = ALIAS.match(line)
+        if m:
+            yield m.group(1)
         m = DECLARED.match(line)
         if m and m.group(2) is not None and not m.group(2).startswith(("goal.", "tie.")) and not MADE.match(m.group(1)):
             yield m.group(1)
@@ -70,7 +74,7 @@ def table(root):
         lemmas.update(n for n in declared(path) if "-" in n)
     turned = {}
     for name in sorted(lemmas - taken):
-        new = joined(name, words)
+        new = joined(joined(name, words), words)
         if new != name:
             turned[name] = new + "_lem" if new in all_names or new in turned.values() else new
     return turned

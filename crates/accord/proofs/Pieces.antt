@@ -81,9 +81,9 @@ pieces_lines (firstly {more = more} p k e w) h before =
     ∙ sym (hall_pieces k p (joined more) e h before)
 
 -- so the pieces joined are the text of the whole recording
-pub hall-text_pieces : (bytes : List ℕ) → good_head bytes ≡ true → (ps : List (List ℕ)) → Pieces ps → joined ps ≡ drop 2 bytes
+pub hall_text_pieces : (bytes : List ℕ) → good_head bytes ≡ true → (ps : List (List ℕ)) → Pieces ps → joined ps ≡ drop 2 bytes
     → hall_text bytes ≡ piece_lines (fresh_hall bytes) 0 ps
-hall-text_pieces bytes good ps w e =
+hall_text_pieces bytes good ps w e =
     good-text bytes good
     ∙ ap (λ l. hall_lines (fresh_hall bytes) 0 (cut sent_bytes l)) (sym e)
     ∙ sym (pieces_lines w (fresh_hall bytes) 0)

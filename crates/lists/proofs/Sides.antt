@@ -102,13 +102,13 @@ Says a b Relation.SecondLonger = Agree a b × (length a < length b)
 Says a b (Relation.Fork k) = Whole a b × (agreeing a b ≡ k) × (k < in_both a b)
 Says a b Relation.Broken = Whole a b → ⊥
 
-whole_not-broken : (a b : List ℕ) → Whole a b → broken a b ≡ false
+whole_not_broken : (a b : List ℕ) → Whole a b → broken a b ≡ false
 unfolding broken
-whole_not-broken a b w = rw (eq-eqb (length a % name_bytes) 0 w.0, eq-eqb (length b % name_bytes) 0 w.1)
+whole_not_broken a b w = rw (eq-eqb (length a % name_bytes) 0 w.0, eq-eqb (length b % name_bytes) 0 w.1)
 
-not-broken_whole : (a b : List ℕ) → broken a b ≡ false → Whole a b
+not_broken_whole : (a b : List ℕ) → broken a b ≡ false → Whole a b
 unfolding broken
-not-broken_whole a b h =
+not_broken_whole a b h =
     let both = (and-eq-true_iff (eqb (length a % name_bytes) 0) (eqb (length b % name_bytes) 0)).0 (not-false (eqb (length a % name_bytes) 0 && eqb (length b % name_bytes) 0) h) in
     (eqb-true (length a % name_bytes) 0 both.0, eqb-true (length b % name_bytes) 0 both.1)
 
@@ -117,11 +117,11 @@ pub relation-says : (a b : List ℕ) → Says a b (relation a b)
 unfolding relation
 relation-says a b =
     let P = Says a b in
-    let both : broken a b ≡ false → in_both a b ≤ agreeing a b → Agree a b = λ w l. (not-broken_whole a b w, omega (arith, agreeing-le a b)) in
-    pick-case P (broken a b) Relation.Broken _ (λ h w. not_both h (whole_not-broken a b w))
+    let both : broken a b ≡ false → in_both a b ≤ agreeing a b → Agree a b = λ w l. (not_broken_whole a b w, omega (arith, agreeing-le a b)) in
+    pick-case P (broken a b) Relation.Broken _ (λ h w. not_both h (whole_not_broken a b w))
     (λ w.
     pick-case P (ltb (agreeing a b) (in_both a b)) (Relation.Fork (agreeing a b)) _
-    (λ f. (not-broken_whole a b w, refl, ltb-true (agreeing a b) (in_both a b) f))
+    (λ f. (not_broken_whole a b w, refl, ltb-true (agreeing a b) (in_both a b) f))
     (λ f.
     let m : in_both a b ≤ agreeing a b = ltb-false (agreeing a b) (in_both a b) f in
     pick-case P (eqb (length a) (length b)) Relation.Equal _ (λ e. (both w m, eqb-true (length a) (length b) e))
@@ -137,7 +137,7 @@ module _ (a b : List ℕ) where
   agree-relation : Agree a b → relation a b ≡ pick (eqb (length a) (length b)) Relation.Equal (pick (ltb (length b) (length a)) Relation.FirstLonger Relation.SecondLonger)
   unfolding relation
   agree-relation h =
-      pick_no (broken a b) _ _ (whole_not-broken a b h.0)
+      pick_no (broken a b) _ _ (whole_not_broken a b h.0)
       ∙ pick_no (ltb (agreeing a b) (in_both a b)) _ _ (le-ltb (agreeing a b) (in_both a b) (omega arith))
 
   pub relation-is : (x : Relation) → Says a b x → relation a b ≡ x
@@ -152,11 +152,11 @@ module _ (a b : List ℕ) where
       ∙ pick_no _ _ _ (ne_eqb (length a) (length b) (λ e. omega arith))
       ∙ pick_no _ _ _ (le-ltb (length b) (length a) (omega arith))
   relation-is (Relation.Fork k) h =
-      pick_no (broken a b) _ _ (whole_not-broken a b h.0)
+      pick_no (broken a b) _ _ (whole_not_broken a b h.0)
       ∙ pick_yes (ltb (agreeing a b) (in_both a b)) _ _ (lt-ltb (agreeing a b) (in_both a b) (omega arith))
       ∙ ap (λ (i : ℕ). Relation.Fork i) h.1
   relation-is Relation.Broken h =
-      pick_yes (broken a b) _ _ (not_of (broken a b) (λ e. h (not-broken_whole a b e)))
+      pick_yes (broken a b) _ _ (not_of (broken a b) (λ e. h (not_broken_whole a b e)))
 
   -- an index is below the names that both lists have
   pub relation_index_lem : relation_index (relation a b) ≤ in_both a b

@@ -46,11 +46,11 @@ pub is_no : {x k n : ℕ} → x ≡ k → (x ≡ n → ⊥) → eqb k n ≡ fals
 is_no {k = k} {n = n} e h = ne_eqb k n (λ q. h (e ∙ q))
 
 -- a negated test
-pub not-is_yes : {a b : ℕ} → (a ≡ b → ⊥) → not (eqb a b) ≡ true
-not-is_yes {a} {b} h = ap not (ne_eqb a b h)
+pub not_is_yes : {a b : ℕ} → (a ≡ b → ⊥) → not (eqb a b) ≡ true
+not_is_yes {a} {b} h = ap not (ne_eqb a b h)
 
-pub not-is_no : {a b : ℕ} → a ≡ b → not (eqb a b) ≡ false
-not-is_no {a} {b} h = ap not (eq-eqb a b h)
+pub not_is_no : {a b : ℕ} → a ≡ b → not (eqb a b) ≡ false
+not_is_no {a} {b} h = ap not (eq-eqb a b h)
 
 -- what a search found: its place, the epoch and the voters of its block
 pub found_place : {x : Found} {k : ℕ} {b : Block} → x ≡ record { place = record { 0 = k }; block = b } → x.place.0 ≡ k

@@ -99,17 +99,17 @@ kept-holds : Holds 4 kept_stays
 unfolding began shown musts session kept_stays
 kept-holds = refl
 
-other_epoch-holds : Holds 4 other_epoch_stored
+other_epoch_holds : Holds 4 other_epoch_stored
 unfolding began shown musts session other_epoch_stored
-other_epoch-holds = refl
+other_epoch_holds = refl
 
 half_holds : Holds 5 more_than_half
 unfolding began shown musts more_than_half
 half_holds = refl
 
-stuck_hall-holds : Holds 4 stuck_hall
+stuck_hall_holds : Holds 4 stuck_hall
 unfolding began shown musts session stuck_hall
-stuck_hall-holds = refl
+stuck_hall_holds = refl
 
 late_holds : Holds 4 late_final
 unfolding began shown musts early late_final

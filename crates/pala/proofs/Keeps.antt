@@ -123,26 +123,26 @@ module _ (s : State) (places : length s.blocks ≡ suc capacity) (h : well_shape
   pub rows_voted : (p i voted : ℕ) → p < size (rows s) → rows (with_vote s p i voted) ≡ set (rows s) p (with_voter (at (rows s) p) i)
   rows_voted p i voted l = rows-vote s p i voted (low l) inside
 
-  shaped-block_more : (b : Block) (proposed : ℕ) → NewBlock (rows s) b → s.count < capacity → well_shaped (with_block s b proposed) ≡ true
+  shaped_block_more : (b : Block) (proposed : ℕ) → NewBlock (rows s) b → s.count < capacity → well_shaped (with_block s b proposed) ≡ true
   unfolding with_block
-  shaped-block_more b proposed w l =
+  shaped_block_more b proposed w l =
       let next : suc s.count < length s.blocks = omega arith in
       shaped_of (with_block s b proposed) (shaped-nodes s h) l (omega (arith, shaped-kept s h)) (shaped_local s h) (shaped-clock s h)
       (subst (Blocks s.n (suc s.count)) (sym (rows_added b proposed l))
       (append_order s.n s.count (rows s) b size-shaped w (shaped-block s h)))
       (laid_blanks s.count (suc s.count) s.blocks (suc s.count) b next (omega arith) (omega arith) (omega arith) (shaped-blank s h))
 
-  shaped-vote_more : (p i voted : ℕ) → 0 < p → p < size (rows s) → i < s.n → well_shaped (with_vote s p i voted) ≡ true
+  shaped_vote_more : (p i voted : ℕ) → 0 < p → p < size (rows s) → i < s.n → well_shaped (with_vote s p i voted) ≡ true
   unfolding with_vote
-  shaped-vote_more p i voted pos l below =
+  shaped_vote_more p i voted pos l below =
       shaped_of (with_vote s p i voted) (shaped-nodes s h) (shaped-count s h) (shaped-kept s h) (shaped_local s h) (shaped-clock s h)
       (subst (Blocks s.n s.count) (sym (rows_voted p i voted l))
       (vote_order s.n s.count (rows s) p i size-shaped pos (low l) below (shaped-block s h)))
       (laid_blanks s.count s.count s.blocks p (with_voter (at (rows s) p) i) (omega (arith, low l, inside)) pos (low l) (omega arith) (shaped-blank s h))
 
-  shaped-clock_more : (i c : ℕ) → i < s.n → well_shaped (with_clock s i c) ≡ true
+  shaped_clock_more : (i c : ℕ) → i < s.n → well_shaped (with_clock s i c) ≡ true
   unfolding with_clock rows
-  shaped-clock_more i c below =
+  shaped_clock_more i c below =
       shaped_of (with_clock s i c) (shaped-nodes s h) (shaped-count s h) (shaped-kept s h) (shaped_local s h)
       (clock_keeps s.n s.clocks i (record { 0 = c }) below (shaped-clock s h)) (shaped-block s h) (shaped-blank s h)
 
@@ -180,10 +180,10 @@ module _ (s : State) (places : length s.blocks ≡ suc capacity) (h : well_shape
   did_places (clocked i c k2 k5 below e) = ap (λ (x : State). length x.blocks) e ∙ places
 
   did_shaped : {r : List ℕ} {u : State} → Did room s r u → well_shaped u ≡ true
-  did_shaped (added b proposed kind w l e) = ap well_shaped e ∙ shaped-block_more s places h b proposed w (not_full s.count l)
-  did_shaped (counted kind pos l below other e) = ap well_shaped e ∙ shaped-vote_more s places h _ _ _ pos l below
-  did_shaped (cast kind l v e) = ap well_shaped e ∙ shaped-vote_more s places h _ _ _ (votable_parts _ _ _ _ _ _ v).above l below_own
-  did_shaped (clocked i c k2 k5 below e) = ap well_shaped e ∙ shaped-clock_more s places h i c below
+  did_shaped (added b proposed kind w l e) = ap well_shaped e ∙ shaped_block_more s places h b proposed w (not_full s.count l)
+  did_shaped (counted kind pos l below other e) = ap well_shaped e ∙ shaped_vote_more s places h _ _ _ pos l below
+  did_shaped (cast kind l v e) = ap well_shaped e ∙ shaped_vote_more s places h _ _ _ (votable_parts _ _ _ _ _ _ v).above l below_own
+  did_shaped (clocked i c k2 k5 below e) = ap well_shaped e ∙ shaped_clock_more s places h i c below
 
   -- the table only grows
   pub did_grows : {r : List ℕ} {u : State} → Did room s r u → Grown (rows s) (rows u)

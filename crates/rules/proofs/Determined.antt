@@ -13,11 +13,11 @@ enough_one κs a r q s t = one-outcome
 columns_of_one : (κs : _) (a : _) (r q : _) (s t : _) → columns_of.Post κs a r s → columns_of.Post κs a q t → r ≡ q
 columns_of_one κs a r q s t = one-outcome
 
-freshest-one : (κs : _) (a : _) (r q : _) (s t : _) → freshest.Post κs a r s → freshest.Post κs a q t → r ≡ q
-freshest-one κs a r q s t = one-outcome
+freshest_one : (κs : _) (a : _) (r q : _) (s t : _) → freshest.Post κs a r s → freshest.Post κs a q t → r ≡ q
+freshest_one κs a r q s t = one-outcome
 
-ballot-one : (κs : _) (a : _) (r q : _) (s t : _) → ballot.Post κs a r s → ballot.Post κs a q t → r ≡ q
-ballot-one κs a r q s t = one-outcome
+ballot_one : (κs : _) (a : _) (r q : _) (s t : _) → ballot.Post κs a r s → ballot.Post κs a q t → r ≡ q
+ballot_one κs a r q s t = one-outcome
 
 standing_one : (κs : _) (a : _) (r q : _) (s t : _) → standing.Post κs a r s → standing.Post κs a q t → r ≡ q
 standing_one κs a r q s t = one-outcome

@@ -1,7 +1,7 @@
 -- Rows 7 to 14 of a proposal: each test is a row, passed or refused by. Assumes nothing.
 use Prim.Native.Nat.{ℕ, suc}
 use Rattle.node.proofs.ByKind.{proposal_rows, proposal_judged}
-use Rattle.node.proofs.Facts.{le_yes, le_no, least_yes, least_no, past_yes, past_no, not-is_yes, not-is_no, found_place, epoch_found, sized}
+use Rattle.node.proofs.Facts.{le_yes, le_no, least_yes, least_no, past_yes, past_no, not_is_yes, not_is_no, found_place, epoch_found, sized}
 use Rattle.node.proofs.Ways.Through.{refuses, passes, takes}
 use Rattle.node.proofs.Ways.{Through, Past}
 use Rattle.node.specs.Moves.{judged}
@@ -55,7 +55,7 @@ past_6 c m way = past_5 c.before.before.before m (passes (least_no (epoch_found 
 
 past_7 : (c : Else-f-e) → To c.args.s c.args.f 7
 unfolding proposer
-past_7 c m way = past_6 c.before.before.before m (passes (not-is_no c.if-f-e.false) way)
+past_7 c m way = past_6 c.before.before.before m (passes (not_is_no c.if-f-e.false) way)
 
 past_8 : (c : Else-s-ge-CAPACITY) → To c.args.s c.args.f 8
 unfolding room
@@ -90,7 +90,7 @@ nonzero_rem-e c = omega (arith, shaped-nodes c.args.s c.requires.0)
 
 pub returns-then-f-e : goal.returns-then-f-e
 unfolding taken proposer
-returns-then-f-e c r e = c.refused-then-f-e.ensures ∙ given (goal.at.returns-then-f-e c).Start _ (past_6 (goal.at.returns-then-f-e c).Else-e-b _ (refuses (not-is_yes c.if-f-e.true) refl)) r e
+returns-then-f-e c r e = c.refused-then-f-e.ensures ∙ given (goal.at.returns-then-f-e c).Start _ (past_6 (goal.at.returns-then-f-e c).Else-e-b _ (refuses (not_is_yes c.if-f-e.true) refl)) r e
 
 pub returns-then-s-ge-CAPACITY : goal.returns-then-s-ge-CAPACITY
 unfolding taken room

@@ -1,7 +1,7 @@
 -- Rows 7 to 14 of a proposal of its own: each test is a row, passed or refused by. Assumes nothing.
 use Prim.Native.Nat.{ℕ, suc}
 use Rattle.node.proofs.ByKind.{propose_rows, propose_judged}
-use Rattle.node.proofs.Facts.{le_yes, le_no, least_yes, least_no, not-is_yes, not-is_no, found_place, top_epoch_lem, sized}
+use Rattle.node.proofs.Facts.{le_yes, le_no, least_yes, least_no, not_is_yes, not_is_no, found_place, top_epoch_lem, sized}
 use Rattle.node.proofs.Ways.Through.{refuses, passes, takes}
 use Rattle.node.proofs.Ways.{Through, Past}
 use Rattle.node.specs.Moves.{judged}
@@ -50,7 +50,7 @@ past_4 c m way = past_3 c.before.before.before.before m (passes (least_no (top_e
 
 past_5 : (c : Else-s-e) → To c.args.s c.args.f 5
 unfolding proposer
-past_5 c m way = past_4 c.before.before.before m (passes (not-is_no c.if-s-e.false) way)
+past_5 c m way = past_4 c.before.before.before m (passes (not_is_no c.if-s-e.false) way)
 
 past_6 : (c : Else-s-e-2) → To c.args.s c.args.f 6
 past_6 c m way = past_5 c.before.before m (passes (ne_eqb _ _ c.if-s-e-2.false) way)
@@ -80,7 +80,7 @@ nonzero_rem-e c = omega (arith, shaped-nodes c.args.s c.requires.0)
 
 pub returns-then-s-e : goal.returns-then-s-e
 unfolding taken proposer
-returns-then-s-e c r e = c.refused-then-s-e.ensures ∙ given (goal.at.returns-then-s-e c).Start _ (past_4 (goal.at.returns-then-s-e c).Else-e-top _ (refuses (not-is_yes c.if-s-e.true) refl)) r e
+returns-then-s-e c r e = c.refused-then-s-e.ensures ∙ given (goal.at.returns-then-s-e c).Start _ (past_4 (goal.at.returns-then-s-e c).Else-e-top _ (refuses (not_is_yes c.if-s-e.true) refl)) r e
 
 pub returns-then-s-e-2 : goal.returns-then-s-e-2
 unfolding taken
