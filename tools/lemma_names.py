@@ -80,16 +80,27 @@ def table(root):
     return turned
 
 
+def turn_code(code, path, turned):
+    code = TOKEN.sub(lambda m: turned.get(m.group(), m.group()), code)
+    if path.endswith(("Answers.antt", "Invariants.antt", "Proof.antt")):
+        return OF_MODULE.sub(lambda m: m.group(1) + turned.get(m.group(2), m.group(2)), code)
+    return BEHIND.sub(lambda m: turned.get(m.group(), m.group()), code)
+
+
+def turn_line(line, path, turned):
+    """Of a comment only what stands in backquotes is turned."""
+    at = re.search(r"^\s*#|--(?=\s)", line)
+    code, comment = (line[: at.start()], line[at.start() :]) if at else (line, "")
+    comment = re.sub(r"`[^`]*`", lambda m: TOKEN.sub(lambda n: turned.get(n.group(), n.group()), m.group()), comment)
+    return turn_code(code, path, turned) + comment
+
+
 def main():
     root = sys.argv[1] if len(sys.argv) > 1 else os.path.join(os.path.dirname(os.path.realpath(__file__)), "..")
     turned = table(root)
     for path in texts(root):
         old = read(path)
-        new = TOKEN.sub(lambda m: turned.get(m.group(), m.group()), old)
-        if path.endswith(("Answers.antt", "Invariants.antt", "Proof.antt")):
-            new = OF_MODULE.sub(lambda m: m.group(1) + turned.get(m.group(2), m.group(2)), new)
-        else:
-            new = BEHIND.sub(lambda m: turned.get(m.group(), m.group()), new)
+        new = "".join(turn_line(line, path, turned) for line in old.splitlines(True))
         if new != old:
             with open(path, "w", encoding="utf-8") as f:
                 f.write(new)

@@ -70,7 +70,7 @@ unfoldable pub node : ℕ → ℕ → ℕ → List Block → State
 unfolding table blank
 node i local held blocks = state_of 4 i local held 0 [] (blank ∷ blocks) false
 
--- a well_shaped_lem hall: no number at or above n is honest and every gateway's state, a faulty one's too, is well shaped
+-- a well-shaped hall: no number at or above n is honest and every gateway's state, a faulty one's too, is well shaped
 shapes_told :
     map hall_shaped
     (fresh_hall (4 ∷ 7 ∷ [])

@@ -18,7 +18,7 @@ use Rattle.lists.proofs.Readings.{list_read}
 use Rattle.lines.specs.Text.{written}
 use Rattle.hall.proofs.Parts.{put_part}
 
--- a well_shaped_lem state's final list has no more names than a table has blocks
+-- a well-shaped state's final list has no more names than a table has blocks
 pub names_most : (s : State) → well_shaped s ≡ true → length (final_names s) ≤ capacity
 names_most s h =
     let held : length (final_names s) ≤ s.kept.0 = subst (λ l. length l ≤ s.kept.0) (sym (finals_are s)) (names_le (rows s) s.kept.0) in

@@ -143,7 +143,7 @@ module _ (h : Hall) where
   pub hall_unkept : hall_shaped h ≡ false → (false ≡ hall_shaped h) × (false ≡ true → Kept h)
   hall_unkept f = (sym f, λ e. absurd (false≢true e))
 
-  -- a well_shaped_lem one, in memory that has room for eight states of 65 rows
+  -- a well-shaped one, in memory that has room for eight states of 65 rows
   pub hall-kept : length h.states ≡ most_gateways
       → length h.honest ≡ most_gateways
       → ((i : ℕ) → i < h.n → length (gateway h i).blocks ≡ suc capacity)

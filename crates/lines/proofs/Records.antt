@@ -46,7 +46,7 @@ number-few Answer.Nothing = lit< tt
 number-few Answer.Full = lit< tt
 number-few Answer.Setup = lit< tt
 
--- a well_shaped_lem state's final list has at most as many names as the table has blocks
+-- a well-shaped state's final list has at most as many names as the table has blocks
 pub names_few : (t : State) → well_shaped t ≡ true → length (final_names t) < 100
 names_few t h =
     let same : length (final_names t) ≤ t.kept.0 = subst (λ (l : List (List ℕ)). length l ≤ t.kept.0) (sym (finals_are t)) (names_le (rows t) t.kept.0) in

@@ -134,7 +134,7 @@ module _ (s : State) (r : List ℕ) where
         there = ap (λ (x : Decision). x.place.0) e ∙ pick_yes (taken (lowest_of (shaped_rows room s r lent))) (place_for s r) 0 takes;
       }
 
-  -- ---- the decision and the call on a well_shaped_lem state
+  -- ---- the decision and the call on a well-shaped state
 
   module _ (h : well_shaped s ≡ true) where
     pub decided-answer : (decision s r).answer ≡ (step s r lent).answer

@@ -122,7 +122,7 @@ far_rows = (refl, refl, refl, refl, refl)
 abbrev starts : ℕ → ℕ → ℕ
 starts n own = number (start n own).answer
 
--- "Starting with n of 0 or above 32, or own number not below n, answers 15 and an all_zero_lem state"; "Fresh: local 1, all else 0, no blocks, not torn."
+-- "Starting with n of 0 or above 32, or own number not below n, answers 15 and an all-zero state"; "Fresh: local 1, all else 0, no blocks, not torn."
 starts_hold :
     (starts 1 0 ∷ starts 4 3 ∷ starts 32 31 ∷ [] ≡ 0 ∷ 0 ∷ 0 ∷ [])
     × (starts 0 0 ∷ starts 33 0 ∷ starts 4 4 ∷ starts 1 1 ∷ [] ≡ 15 ∷ 15 ∷ 15 ∷ 15 ∷ [])

@@ -1,4 +1,4 @@
--- Starts, calls and runs: a fresh state is well shaped, every later state too, and the all_zero_lem state refuses all. Assumes nothing.
+-- Starts, calls and runs: a fresh state is well shaped, every later state too, and the all-zero state refuses all. Assumes nothing.
 use Prim.Native.Nat.{ℕ, suc}
 use mathlib.Core.Bool.{true, false, not, ◌&&◌}
 use mathlib.Core.List.{List, [], ◌∷◌}
@@ -29,7 +29,7 @@ use Rattle.pala.proofs.Keeps.{Proper, step_did, step_keeps}
 -- ---- a call with and without the test of the shape
 
 module _ (s : State) (r out : List ℕ) where
-  -- of a well_shaped_lem state row 1 doesn't apply
+  -- of a well-shaped state row 1 doesn't apply
   pub step_is : well_shaped s ≡ true → step s r out ≡ step_shaped room s r out
   unfolding step step_shaped lowest_of all_rows
   step_is h =
@@ -66,13 +66,13 @@ pub any_lent : (s : State) (r out : List ℕ) → length out ≡ record_bytes �
 unfolding lent
 any_lent s r out e = (step_any_out s r out lent e (length-replicate {A = ℕ} record_bytes 0)).0
 
--- ---- the all_zero_lem state
+-- ---- the all-zero state
 
 pub zero_unshaped : well_shaped all_zero ≡ false
 unfolding well_shaped all_zero
 zero_unshaped = refl
 
--- "an all_zero_lem state, which every later call refuses with 1"
+-- "an all-zero state, which every later call refuses with 1"
 pub zero_refused : (r out : List ℕ) → step all_zero r out ≡ record { answer = Answer.State; state = all_zero; out = out }
 zero_refused r out = step_refuses all_zero r out zero_unshaped
 

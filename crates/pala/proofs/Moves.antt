@@ -296,7 +296,7 @@ module _ (space : ℕ → Bool) (s : State) (r out : List ℕ) (p : Passed space
       (λ k3. pick-case (Did space s r) (is propose_now r) _ _ (did_propose some)
       (λ k4. pick-case (Did space s r) (is cast_now r) _ _ did_cast (λ k5. clocked s.own.0 (s.local.0 + 1) k2 k5 own refl)))))
 
--- ---- a call on a well_shaped_lem state
+-- ---- a call on a well-shaped state
 
 -- its outcome: refused and the same state, or taken with what it did, then settled
 pub data Stepped (space : ℕ → Bool) (s : State) (r out : List ℕ) (o : Outcome) : Type 0 where

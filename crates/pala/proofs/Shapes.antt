@@ -1,4 +1,4 @@
--- What a well_shaped_lem state has, clause by clause of 01's "A state is well shaped when ..", as plain facts; and the other way. Assumes nothing.
+-- What a well-shaped state has, clause by clause of 01's "A state is well shaped when ..", as plain facts; and the other way. Assumes nothing.
 use Prim.Native.Nat.{ℕ, zero, suc, ◌≤◌, ◌<◌, zero-le}
 use mathlib.Core.Bool.{Bool, true, false, not, ◌&&◌, ◌||◌, and-false, true≢false, false≢true}
 use mathlib.Core.List.{List, [], ◌∷◌}

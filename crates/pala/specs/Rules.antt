@@ -12,7 +12,7 @@ unfoldable pub epoch_at : List Block → ℕ → ℕ
 unfolding at
 epoch_at t p = (at t p).epoch.0
 
--- "places fall": the next place down by `up`; one that isn't lower, which no well_shaped_lem state has, counts as the genesis
+-- "places fall": the next place down by `up`; one that isn't lower, which no well-shaped state has, counts as the genesis
 unfoldable pub lower : (ℕ → ℕ) → ℕ → ℕ
 unfolding pick
 lower up p = pick (ltb (up p) p) (up p) 0

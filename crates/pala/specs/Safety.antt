@@ -108,7 +108,7 @@ pub record Premises (n : ℕ) (honest : ℕ → Bool) (run : Run) : Type 0 where
   pub book : Book
   pub fits : OneBlockOneName n honest run book
 
--- the final chain that gateway i shows at a moment: what the final_list_lem function writes, name after name
+-- the final chain that gateway i shows at a moment: what the final-list function writes, name after name
 unfoldable pub shown_at : ℕ → Run → ℕ → ℕ → List ℕ
 unfolding joined final_names state_at
 shown_at n run m i = joined (final_names (state_at n run m i))

@@ -1,4 +1,4 @@
--- Demand 3 for what reaches a reader: the bytes that the final_list_lem function writes, and those that two runs of the firmware write.
+-- Demand 3 for what reaches a reader: the bytes that the final-list function writes, and those that two runs of the firmware write.
 use Rattle.std.specs.Prelude.{ℕ, ◌*◌, ◌%◌, ◌<◌, ◌≡◌, Bool, true, false, List, [], ◌∷◌, eqb, length, take}
 use Rattle.table.specs.Rows.{name_bytes}
 use Rattle.pala.specs.Record.{record_bytes}

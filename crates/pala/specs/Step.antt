@@ -29,7 +29,7 @@ outcome a s r out =
 unfoldable pub room : ℕ → Bool
 room held = ltb held capacity
 
--- a call on a well_shaped_lem state, at any room
+-- a call on a well-shaped state, at any room
 unfoldable pub step_shaped : (ℕ → Bool) → State → List ℕ → List ℕ → Outcome
 unfolding outcome lowest_of shaped_rows
 step_shaped space s r out = outcome (lowest_of (shaped_rows space s r out)) s r out
@@ -44,7 +44,7 @@ pub record Started : Type 0 where
   pub answer : Answer
   pub state : State
 
--- "Starting with n of 0 or above 32, or own number not below n, answers 15 and an all_zero_lem state"
+-- "Starting with n of 0 or above 32, or own number not below n, answers 15 and an all-zero state"
 unfoldable pub start : ℕ → ℕ → Started
 unfolding pick nodes fresh all_zero
 start n own =

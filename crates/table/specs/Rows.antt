@@ -20,7 +20,7 @@ name_bytes = 32
 abbrev pub payload_bytes : ℕ
 payload_bytes = 24
 
--- a row of zeros: the genesis ("the all_zero_lem name", "place 0, epoch 0"), and what an unused place holds
+-- a row of zeros: the genesis ("the all-zero name", "place 0, epoch 0"), and what an unused place holds
 unfoldable pub blank : Block
 blank =
     record {
@@ -74,7 +74,7 @@ with_voter b i =
       parent = b.parent;
     }
 
--- "Fresh: local 1, all else 0, no blocks, not torn"; with n, own number and local of 0 it is the all_zero_lem state
+-- "Fresh: local 1, all else 0, no blocks, not torn"; with n, own number and local of 0 it is the all-zero state
 unfoldable pub plain : ℕ → ℕ → ℕ → State
 unfolding blank
 plain n own local =
@@ -96,7 +96,7 @@ unfoldable pub fresh : ℕ → ℕ → State
 unfolding plain
 fresh n own = plain n own 1
 
--- "an all_zero_lem state, which every later call refuses with 1"
+-- "an all-zero state, which every later call refuses with 1"
 unfoldable pub all_zero : State
 unfolding plain
 all_zero = plain 0 0 0

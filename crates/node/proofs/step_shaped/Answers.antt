@@ -1,4 +1,4 @@
--- A call on a well_shaped_lem state: the rows, and then what a taken record does. Assumes nothing.
+-- A call on a well-shaped state: the rows, and then what a taken record does. Assumes nothing.
 use Rattle.node.proofs.Calls.{call_refused, call_taken, out_off, row_torn, row-length, granted, decided-rows, decided-taken}
 use Rattle.node.specs.Moves.{Granted}
 use Rattle.pala.specs.Answers.{taken, lowest_of, shaped_rows}

@@ -1,4 +1,4 @@
--- Demand 3 for the bytes written: by the final_list_lem function, and by two runs of the firmware. Assumes nothing.
+-- Demand 3 for the bytes written: by the final-list function, and by two runs of the firmware. Assumes nothing.
 use Prim.Native.Nat.{ℕ, suc, ◌+◌, ◌*◌, ◌%◌, ◌≤◌, ◌<◌, zero-le, suc-le-suc}
 use mathlib.Core.Bool.{Bool, true, false}
 use mathlib.Core.List.{List, [], ◌∷◌, ◌++◌}
@@ -72,7 +72,7 @@ finals_long : (s : State) → Proper s → length (joined (final_names s)) ≡ n
 finals_long s k =
     subst (λ l. length (joined l) ≡ name_bytes * length l) (sym (finals_are s)) (names_long (rows s) (at-sized s k) s.kept.0)
 
--- what the final_list_lem function writes: the final names, or nothing
+-- what the final-list function writes: the final names, or nothing
 written_is : (s : State) → Proper s → (x : List ℕ) → (written (final_list s x) ≡ joined (final_names s)) ⊎ (written (final_list s x) ≡ [])
 unfolding final_list listed
 written_is s k x =

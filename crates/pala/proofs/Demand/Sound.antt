@@ -1,4 +1,4 @@
--- The table of a well_shaped_lem state as demand 3 reads it: blocks in order above the genesis. Assumes nothing.
+-- The table of a well-shaped state as demand 3 reads it: blocks in order above the genesis. Assumes nothing.
 use Prim.Native.Nat.{ℕ, ◌<◌}
 use mathlib.Core.Bool.{true}
 use mathlib.Core.List.{List}

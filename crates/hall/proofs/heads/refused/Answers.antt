@@ -1,4 +1,4 @@
--- A refusal: eight all_zero_lem states, nobody honest, no node. Assumes nothing.
+-- A refusal: eight all-zero states, nobody honest, no node. Assumes nothing.
 use Rattle.accord.specs.Head.{no_hall}
 use mathlib.Core.Path.{refl}
 use Rattle.hall.proofs.heads.refused.Goals as goal

@@ -7,17 +7,11 @@ use mathlib.Core.List.{List}
 use mathlib.Core.Path.{ap, sym, ◌∙◌}
 use Rattle.hall.proofs.pieces.put_said.Goals as goal
 
--- UNKNOWN slice-aggregate-put-worded : tie.Need-slice-aggregate-put-worded
--- slice-aggregate-put-worded c = search rules
-
 pub returns-then-word : goal.returns-then-word
 returns-then-word c =
     let a = c.args in
     c.put_worded.ensures
     ∙ ap (λ (w : List ℕ). worded_at a.k a.told w a.at a.text.now) (sym (pick_yes a.word yes_word no_word c.if-word.true))
-
--- UNKNOWN slice-aggregate-put-worded-2 : tie.Need-slice-aggregate-put-worded-2
--- slice-aggregate-put-worded-2 c = search rules
 
 pub returns : goal.returns
 returns c =

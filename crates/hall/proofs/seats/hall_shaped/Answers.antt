@@ -1,4 +1,4 @@
--- Each test of a hall's shape by itself; of a well_shaped_lem one the memory tells the lengths. Assumes nothing.
+-- Each test of a hall's shape by itself; of a well-shaped one the memory tells the lengths. Assumes nothing.
 use Rattle.accord.specs.Head.{honest_in, most_gateways}
 use Rattle.hall.proofs.Seated.{hall_high, hall-kept, hall-many, hall_none, hall_sound, hall_unkept}
 use borrow.Author.Rules.{rules}

@@ -7,9 +7,6 @@ use Rattle.lines.proofs.ends.put_end.Goals as goal
 pub returns-then-text-lt-ROOM : goal.returns-then-text-lt-ROOM
 returns-then-text-lt-ROOM c = lined_none (end_line c.args.count) c.args.text.now c.if-text-lt-ROOM.true
 
--- UNKNOWN slice-aggregate-put-bytes : tie.Need-slice-aggregate-put-bytes
--- slice-aggregate-put-bytes c = search rules
-
 pub put_number-requires : goal.put_number-requires
 put_number-requires c =
     omega (arith, digits-most 19 c.args.count (omega (arith, c.ranges)), c.put_bytes-next.ensures.ends, c.if-text-lt-ROOM.false)

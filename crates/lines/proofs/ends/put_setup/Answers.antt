@@ -16,9 +16,6 @@ few c = subst (λ n. n < 16) (sym c.number_of-number.ensures) (number-few Answer
 pub returns-then-text-lt-ROOM : goal.returns-then-text-lt-ROOM
 returns-then-text-lt-ROOM c = lined_none setup_line c.args.text.now c.if-text-lt-ROOM.true
 
--- UNKNOWN slice-aggregate-put-bytes : tie.Need-slice-aggregate-put-bytes
--- slice-aggregate-put-bytes c = search rules
-
 pub put_number-requires : goal.put_number-requires
 put_number-requires c =
     omega (arith, digits-most 19 c.number_of-number.result (omega (arith, few (goal.at.put_number-requires c).After-number_of-number)), c.put_bytes-next.ensures.ends, c.if-text-lt-ROOM.false)

@@ -1,4 +1,4 @@
--- The final list of a well_shaped_lem state: too little room, or every name written. Assumes nothing.
+-- The final list of a well-shaped state: too little room, or every name written. Assumes nothing.
 use Rattle.lists.proofs.Readings.{list_read, list_too_short}
 use native.Mathlib.Omega.{arith}
 use Rattle.lists.proofs.finals.final_list_shaped.Goals as goal

@@ -1,4 +1,4 @@
--- The all_zero_lem state is the plain one of zeros. Assumes nothing.
+-- The all-zero state is the plain one of zeros. Assumes nothing.
 use Rattle.table.specs.Rows.{all_zero}
 use Rattle.table.proofs.states.all_zero.Goals as goal
 
