@@ -33,7 +33,7 @@ decide_shaped-d-requires c = c.loop-from.invariant.0.shaped
 
 pub take_shaped-t-requires : goal.take_shaped-t-requires
 take_shaped-t-requires c =
-    (c.loop-from.invariant.0.shaped, sym c.is_taken.ensures ∙ c.if-is_taken.true, (_, c.decide_shaped-d.ensures))
+    (c.loop-from.invariant.0.shaped, (cc), (_, c.decide_shaped-d.ensures))
 
 pub loop-from-preserved : goal.loop-from-preserved
 loop-from-preserved c =
