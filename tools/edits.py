@@ -13,6 +13,8 @@ from concurrent.futures import ThreadPoolExecutor
 
 TOKEN = re.compile(r"◌\S+?◌|[\w']+|[&|+!<>=:-]+|[^\w\s]")
 NAME = re.compile(r"[A-Za-z_][\w']*(?:-[\w']+)*|\+\+|&&|\|\||(?<=\s)[-+*/%^<≡≤∷×](?=\s)")
+# Written by hand: as they were, the goals lose names that a proof cites.
+BY_HAND = ("crates/gateway/must-fail/refused_records_taken.edit", "crates/node/must-fail/other_epochs_refused.edit")
 COMMENT = re.compile(r"(?m)(?:^|\s)(?:--|//)\s.*")
 
 
@@ -77,8 +79,8 @@ def rounds(root, found):
     made = []
     for path, pairs in found.items():
         where = places(root, pairs)
-        if not all(at[0].strip() for at in where.values()):
-            print(f"by hand: {path}: a line goes")
+        if path in BY_HAND or not all(at[0].strip() for at in where.values()):
+            print(f"by hand: {path}: {'a name' if path in BY_HAND else 'a line'} goes")
             continue
         keys = {(file, "imports" if at[0].startswith("use ") else n) for (file, n), at in where.items()}
         free = next((r for r in made if not r[0] & keys), None) or made.append((set(), {})) or made[-1]
