@@ -1,7 +1,7 @@
 #!/usr/bin/env python3
 """Brings lemmas and helpers of proofs/ to the spelling of today's Rattle: plain words are joined by `_`, a dash joins the names of two definitions.
 
-usage: python3 tools/lemma_names.py [FOLDER]    FOLDER holds crates/ and docs/ (default: the folder above this script)
+usage: python3 tools/lemma_names.py [FOLDER]    FOLDER holds crates/ (default: the folder above this script)
 
 It may run again: what it has turned it leaves. Goals, invariants, measures and the names that Rattle makes keep their dashes.
 """
