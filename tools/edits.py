@@ -13,7 +13,6 @@ from concurrent.futures import ThreadPoolExecutor
 
 TOKEN = re.compile(r"◌\S+?◌|[\w']+|[&|+!<>=:-]+|[^\w\s]")
 NAME = re.compile(r"[A-Za-z_][\w']*(?:-[\w']+)*|\+\+|&&|\|\||(?<=\s)[-+*/%^<≡≤∷×](?=\s)")
-# Written by hand: as they were, the goals lose names that a proof cites.
 # Edits whose plain turn takes away a name that a proof file cites.
 BY_HAND = (
     "crates/gateway/must-fail/refused_records_taken.edit",
