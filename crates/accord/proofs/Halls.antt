@@ -53,7 +53,7 @@ good_head_lem (n ∷ set ∷ more) h =
 -- ---- a fresh hall
 
 -- what a list of something for each number has at a number
-for_each : {A : Type 0} (f : ℕ → A) (d : A) (i : ℕ) → i < most_gateways → get_or (map f gateways) i d ≡ f i
+pub for_each : {A : Type 0} (f : ℕ → A) (d : A) (i : ℕ) → i < most_gateways → get_or (map f gateways) i d ≡ f i
 unfolding all_below
 for_each f d i h =
     get_d_any (map f gateways) i d (f 0) h

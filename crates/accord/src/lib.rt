@@ -7,17 +7,19 @@ use table::{Answer, State};
 
 // "up to eight gateways"
 pub const MOST_GATEWAYS: u32 = 8;
+// A state and a mark for each.
+pub const GATEWAYS: usize = MOST_GATEWAYS as usize;
 
-// The gateways on the desk: the state of each number, "the set of honest nodes" and n.
-#[derive(Clone, Copy)]
+// The gateways on the desk: the state of each number, "the set of honest nodes" and n. Fixed memory, no heap: arrays of eight, and n.
+#[derive(Clone, Copy, PartialEq, Eq)]
 pub struct Hall {
-    pub states: [State; 8],
-    pub honest: [bool; 8],
+    pub states: [State; GATEWAYS],
+    pub honest: [bool; GATEWAYS],
     pub n: u32,
 }
 
-// What is answered to a record: 20, 21, 22, or what its receiver answered. The definitions speak of it; code has its number.
-#[derive(Clone, Copy)]
+// What is answered to a record: 20, 21, 22, or what its receiver answered; `verdict_number` gives each its number.
+#[derive(Clone, Copy, PartialEq, Eq)]
 pub enum Verdict {
     Receiver,
     Forged,

@@ -1,57 +1,60 @@
 // A record in 01's words, told from its bytes.
 
-use crate::records::{
-    KIND_AT, MINUTE, NAME_AT, PARENT_AT, PAYLOAD_AT, SENDER_AT, epoch_of, rebuilt,
-};
-use crate::say::{echo, name, number, text, text_number};
-use std::io;
-
-// "Payloads are zero, but .."
-const NO_PAYLOAD: u8 = 0;
-
-// A payload that isn't zero.
-fn payload(rt: &impl Print, byte: u8) -> io::Result<()> {
-    if byte != NO_PAYLOAD {
-        text_number(rt, b", payload ", byte as u32)?;
-    }
-    Ok(())
-}
-
-// A field by its capital; any other byte as it stands.
-fn word(rt: &impl Print, rec: [u8; 96], byte: u8) -> io::Result<()> {
-    match byte {
-        b'S' => number(rt, rec[SENDER_AT] as u32),
-        b'E' => number(rt, epoch_of(rec)),
-        b'N' => name(rt, rec[NAME_AT]),
-        b'P' => name(rt, rec[PARENT_AT]),
-        b'L' => payload(rt, rec[PAYLOAD_AT]),
-        _ => echo(rt, byte),
-    }
-}
-
-// The words of its kind, which stand behind that number.
-fn words(rt: &impl Print, rec: [u8; 96]) -> io::Result<()> {
-    let all =
-        b"\x01proposal N from S (epoch E, on PL)\x02vote N from S\x03clock E from S\x04propose NL\x05cast\x06minute";
-    let kind = rec[KIND_AT];
-    let mut of: u8 = 0;
-    for i in 0..all.len() {
-        let byte = all[i];
-        if byte <= MINUTE {
-            of = byte;
-        } else if of == kind {
-            word(rt, rec, byte)?;
-        }
-    }
-    Ok(())
-}
+use crate::names::Name;
+use crate::records::{Fields, Kind, RECORD_BYTES};
+use std::fmt;
 
 // A record in words; where some byte is not what the words say, that too.
-pub fn describe(rt: &impl Print, rec: [u8; 96]) -> io::Result<()> {
-    words(rt, rec)?;
-    let told = rebuilt(rec);
-    if rec != told {
-        text(rt, b" and other bytes")?;
+#[derive(Drop)]
+pub struct Described<'a>(pub &'a [u8; RECORD_BYTES]);
+
+impl fmt::Display for Described<'_> {
+    fn fmt<W: fmt::Write>(&self, f: &mut fmt::Formatter<W>) -> fmt::Result {
+        let fields = Fields::of(self.0);
+        write!(f, "{fields}")?;
+        if fields.record() == *self.0 {
+            return Ok(());
+        }
+        f.write_str(" and other bytes")
     }
-    Ok(())
+}
+
+// The words of a kind; none of a number that is no kind's.
+impl fmt::Display for Fields {
+    fn fmt<W: fmt::Write>(&self, f: &mut fmt::Formatter<W>) -> fmt::Result {
+        let Fields {
+            kind,
+            sender,
+            epoch,
+            name,
+            parent,
+            payload,
+        } = *self;
+        let (name, parent, payload) = (Name(name), Name(parent), Payload(payload));
+        match Kind::try_from(kind) {
+            Ok(Kind::ProposalHeard) => write!(
+                f,
+                "proposal {name} from {sender} (epoch {epoch}, on {parent}{payload})"
+            ),
+            Ok(Kind::VoteHeard) => write!(f, "vote {name} from {sender}"),
+            Ok(Kind::ClockHeard) => write!(f, "clock {epoch} from {sender}"),
+            Ok(Kind::ProposeNow) => write!(f, "propose {name}{payload}"),
+            Ok(Kind::CastNow) => f.write_str("cast"),
+            Ok(Kind::MinuteUp) => f.write_str("minute"),
+            Err(_) => Ok(()),
+        }
+    }
+}
+
+// A payload that isn't zero: "Payloads are zero, but .."
+#[derive(Drop)]
+struct Payload(u8);
+
+impl fmt::Display for Payload {
+    fn fmt<W: fmt::Write>(&self, f: &mut fmt::Formatter<W>) -> fmt::Result {
+        if self.0 == 0 {
+            return Ok(());
+        }
+        write!(f, ", payload {}", self.0)
+    }
 }

@@ -6,55 +6,47 @@
 mod calls;
 mod describe;
 mod harms;
+mod names;
 mod orders;
+mod plays;
 mod quorums;
 mod records;
-mod same;
-mod say;
 mod starts;
 mod sweeps;
 mod tables;
 mod tallies;
-mod tells;
 mod told;
 
-use calls::begun;
 use intake::read_full;
-use orders::{idle, read};
-use records::{RECORD_BYTES, at_hand};
+use orders::{Opener, Order, closes};
+use plays::Play;
 use std::io;
-use tallies::{none, tallied};
-use tells::{KEEP, moved, say};
 
 // Room for the orders.
 const SCRIPT_BYTES: usize = 65536;
 
-// Plays each order as it closes: the record at hand, the tally, the state kept aside, the state.
-fn play(rt: &impl Print, script: &[u8]) -> io::Result<()> {
-    let mut order = idle();
-    let mut rec = [0; RECORD_BYTES];
-    let mut tally = none();
-    let mut kept = begun(0, 0);
-    let mut now = kept;
-    for i in 0..script.len() {
-        order = read(rt, order, script[i])?;
-        if order.closed {
-            let named = at_hand(rec, order);
-            rec = named;
-            tally = tallied(rt, tally, now, rec, order)?;
-            if order.word == KEEP {
-                kept = now;
+// Plays each order that closes, and prints what stands outside of them as it stands.
+fn run(rt: &impl Print, script: &[u8]) -> io::Result<()> {
+    let mut play = Play::new();
+    let mut rest = script;
+    while let Some((byte, behind)) = rest.split_first() {
+        rest = behind;
+        match Opener::try_from(*byte) {
+            Ok(opener) => {
+                let Some(end) = rest.iter().position(|byte| closes(*byte)) else {
+                    return Ok(());
+                };
+                play.play(rt, &Order::new(opener, &rest[..end]))?;
+                rest = &rest[end + 1..];
             }
-            now = moved(rt, now, kept, rec, order)?;
-            say(rt, now, kept, rec, order)?;
-            order = idle();
+            Err(text) => rt.write_all(&[text])?,
         }
     }
     Ok(())
 }
 
 fn main(rt: HostRuntime) -> io::Result<()> {
-    let mut script = [0u8; SCRIPT_BYTES];
+    let mut script = [0; SCRIPT_BYTES];
     let got = read_full(&mut rt.stdin(), &mut script)?;
-    play(&rt, &script[..got])
+    run(&rt, &script[..got])
 }

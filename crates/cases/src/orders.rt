@@ -1,140 +1,144 @@
 // The orders of a script. What stands outside of them is printed as it stands.
 
-use crate::say::echo;
-use std::io;
-use std::num::wrapping_add_u32;
-
-// `[..]` is an order that prints, `#..` and the line's end one that doesn't.
-pub const LOUD: u8 = b'[';
-
-const QUIET: u8 = b'#';
-// `(..)` is a sweep whose tally is printed, `+..` and the line's end one that is only counted.
-pub const TOLD_SWEEP: u8 = b'(';
-
-pub const SWEEP: u8 = b'+';
-// No order is open; no word is read yet.
-const TEXT: u8 = 0;
-
-const NO_WORD: u8 = 0;
+use crate::harms::Harm;
+use crate::records::Kind;
+use crate::sweeps::Change;
 
 // The most numbers of an order.
-pub const NUMBERS: usize = 6;
-// Digits are decimal; "A is 32 bytes of 0x0A", so that A is 10 and 1A is 26.
-const TEN: u64 = 10;
+const NUMBERS: usize = 6;
+// "A is 32 bytes of 0x0A", so that A is 10 and 1A is 26; other digits are decimal.
+const TEN: u32 = 10;
 
-const SIXTEEN: u64 = 16;
+const SIXTEEN: u32 = 16;
 
-const LETTER: u8 = b'A';
+// How an order opens.
+#[derive(Clone, Copy, PartialEq, Eq)]
+pub enum Opener {
+    // `[..]` prints, `#..` and the line's end doesn't.
+    Loud,
+    Quiet,
+    // `(..)` is a sweep whose tally is printed, `+..` and the line's end one that is only counted.
+    ToldSweep,
+    Sweep,
+}
 
-const LAST_LETTER: u8 = b'F';
+impl TryFrom<u8> for Opener {
+    // Text, which stands outside of orders.
+    type Error = u8;
 
-pub const ZERO: u8 = b'0';
+    fn try_from(byte: u8) -> Result<Opener, u8> {
+        match byte {
+            b'[' => Ok(Opener::Loud),
+            b'#' => Ok(Opener::Quiet),
+            b'(' => Ok(Opener::ToldSweep),
+            b'+' => Ok(Opener::Sweep),
+            _ => Err(byte),
+        }
+    }
+}
 
-const NINE: u8 = b'9';
+// What an order does.
+#[derive(Clone, Copy)]
+pub enum Word {
+    // A record of a kind is at hand, and played; another byte is in the record at hand.
+    Record(Kind),
+    Mark,
+    // The state is put aside; it is taken again.
+    Keep,
+    Return,
+    // The state that a start, a table or a field gives.
+    Start,
+    Table,
+    Field,
+    // What the record at hand gets on the state put aside: its answer, a byte that it sends.
+    Answer,
+    Out,
+    // What is said of the state: local epoch, bar, count and names of the final list, what a list of two names gets, all zero.
+    Local,
+    Bar,
+    Count,
+    Names,
+    Written,
+    AllZero,
+    // What is said of numbers alone: a quorum, the answer to a start.
+    Quorum,
+    Gateway,
+    // What a sweep changes.
+    Change(Change),
+    // Nothing.
+    Other,
+}
 
-const COMMA: u8 = b',';
-
-// An order whose first letter is a kind names a record.
-pub const FIRST_KIND: u8 = b'1';
-
-pub const LAST_KIND: u8 = b'6';
-
-// Numbers have 32 bits.
-const WRAP: u64 = 4294967296;
+impl From<u8> for Word {
+    fn from(letter: u8) -> Word {
+        match letter {
+            b'1'..=b'6' => Kind::try_from(letter - b'0').map_or(Word::Other, Word::Record),
+            b'm' => Word::Mark,
+            b'k' => Word::Keep,
+            b'r' => Word::Return,
+            b's' => Word::Start,
+            b't' => Word::Table,
+            b'f' => Word::Field,
+            b'a' => Word::Answer,
+            b'o' => Word::Out,
+            b'l' => Word::Local,
+            b'b' => Word::Bar,
+            b'c' => Word::Count,
+            b'n' => Word::Names,
+            b'w' => Word::Written,
+            b'z' => Word::AllZero,
+            b'q' => Word::Quorum,
+            b'g' => Word::Gateway,
+            _ => Change::try_from(letter).map_or(Word::Other, Word::Change),
+        }
+    }
+}
 
 // An order: of its words the first letter counts, and the numbers between its commas.
 #[derive(Clone, Copy)]
 pub struct Order {
-    pub opener: u8,
-    pub word: u8,
+    pub opener: Opener,
+    pub word: Word,
     pub numbers: [u32; NUMBERS],
-    pub commas: u32,
-    pub closed: bool,
 }
 
-// An order as it opens.
-fn fresh(opener: u8) -> Order {
-    Order {
-        opener: opener,
-        word: NO_WORD,
-        numbers: [0; NUMBERS],
-        commas: 0,
-        closed: false,
-    }
-}
-
-// Between orders.
-pub fn idle() -> Order {
-    fresh(TEXT)
-}
-
-// A byte between orders.
-fn between(rt: &impl Print, byte: u8) -> io::Result<Order> {
-    match byte {
-        LOUD | QUIET | TOLD_SWEEP | SWEEP => Ok(fresh(byte)),
-        _ => {
-            echo(rt, byte)?;
-            Ok(idle())
+impl Order {
+    // The order that stands between an opener and its end. Zero bytes before the first letter don't count.
+    pub fn new(opener: Opener, text: &[u8]) -> Order {
+        let (word, numbers) = match text.iter().position(|byte| *byte != 0) {
+            Some(first) => (Word::from(text[first]), numbers_in(&text[first + 1..])),
+            None => (Word::Other, [0; NUMBERS]),
+        };
+        Order {
+            opener,
+            word,
+            numbers,
         }
     }
 }
 
-// A number with one digit more.
+// Does a byte end an order.
+pub fn closes(byte: u8) -> bool {
+    matches!(byte, b']' | b')' | b'\n')
+}
+
+// The numbers between commas; past the last the first is next, and goes on.
+fn numbers_in(text: &[u8]) -> [u32; NUMBERS] {
+    let mut numbers = [0; NUMBERS];
+    for (k, digits) in text.split(|byte| *byte == b',').enumerate() {
+        let at = k % NUMBERS;
+        numbers[at] = digits.iter().fold(numbers[at], |x, digit| grown(x, *digit));
+    }
+    numbers
+}
+
+// A number of 32 bits with one digit more; any other byte leaves it.
 fn grown(x: u32, digit: u8) -> u32 {
-    let before = x as u64;
-    let last = digit as u64;
-    if last < TEN {
-        return ((before * TEN + last) % WRAP) as u32;
-    }
-    ((before * SIXTEEN + last) % WRAP) as u32
-}
-
-// The order with the number it is at grown by a digit; past the last number the first is next.
-fn counted(o: Order, digit: u8) -> Order {
-    let mut p = o;
-    let at = (o.commas as usize) % NUMBERS;
-    p.numbers[at] = grown(o.numbers[at], digit);
-    p
-}
-
-// The order past a comma.
-fn parted(o: Order) -> Order {
-    let mut p = o;
-    p.commas = wrapping_add_u32(o.commas, 1);
-    p
-}
-
-// A byte behind the first.
-fn heard(o: Order, byte: u8) -> Order {
-    match byte {
-        ZERO..=NINE => counted(o, byte - ZERO),
-        LETTER..=LAST_LETTER => counted(o, byte - LETTER + TEN as u8),
-        COMMA => parted(o),
-        _ => o,
-    }
-}
-
-// The order with its first letter, or closed.
-fn marked(o: Order, word: u8, closed: bool) -> Order {
-    let mut p = o;
-    p.word = word;
-    p.closed = closed;
-    p
-}
-
-// The order after a byte more.
-pub fn read(rt: &impl Print, o: Order, byte: u8) -> io::Result<Order> {
-    if o.opener == TEXT {
-        return between(rt, byte);
-    }
-    match byte {
-        b']' | b')' | b'\n' => Ok(marked(o, o.word, true)),
-        _ => {
-            if o.word == NO_WORD {
-                Ok(marked(o, byte, false))
-            } else {
-                Ok(heard(o, byte))
-            }
-        }
+    match digit {
+        b'0'..=b'9' => x.wrapping_mul(TEN).wrapping_add(u32::from(digit - b'0')),
+        b'A'..=b'F' => x
+            .wrapping_mul(SIXTEEN)
+            .wrapping_add(u32::from(digit - b'A') + TEN),
+        _ => x,
     }
 }

@@ -1,118 +1,178 @@
 // One change after another, each to the same state or record, and how many went as they should.
 
-use crate::calls::{WHOLE, answered_of, answers, call};
-use crate::harms::harmed;
-use crate::orders::Order;
-use crate::records::with_byte;
-use crate::same::same_state;
-use crate::tallies::{Tally, counted};
-use node::answers::number_of;
-use node::start;
-use table::State;
+use crate::calls::{UNTOUCHED, call, untouched};
+use crate::harms::Harm;
+use crate::orders::{Order, Word};
+use crate::records::{RECORD_BYTES, with_byte};
+use crate::tallies::Tally;
+use node::{start, step};
+use std::cmp::Ordering;
+use table::{Answer, State};
 
-// Byte `at` of the record is `to`; the same, and the answer must not be the wanted one.
-const BYTE: u8 = b'B';
+// "The 96-byte record", and as long an out buffer.
+const WHOLE: u32 = RECORD_BYTES as u32;
+// The longest record and out buffer tried.
+const LONG: usize = 200;
 
-const UNLIKE: u8 = b'U';
-// The record, the out buffer or both are of `to` bytes.
-const RECORD: u8 = b'R';
+const LENGTHS: usize = LONG + 1;
 
-const LENT: u8 = b'L';
-
-const SIZES: u8 = b'S';
-// A gateway `to` of `at` is started.
-const GATEWAY: u8 = b'G';
-
-// What is wanted where the changed state must only differ.
-const DIFFERS: u32 = 16;
-
-// Where `to` stands to `at`: below, at the same, above; with any other number, anywhere.
-const BELOW: u32 = 1;
-
-const ITSELF: u32 = 2;
-
-const ABOVE: u32 = 3;
-
-// A change at each `at`, each time over each `to` that stands so to it, and what must come of it.
+// What is changed, by two numbers, `at` and `to`.
 #[derive(Clone, Copy)]
-struct Sweep {
-    word: u8,
-    at_first: u32,
-    at_last: u32,
-    to_first: u32,
-    to_last: u32,
-    relation: u32,
-    want: u32,
+pub enum Change {
+    // Byte `at` of the record is `to`; the same, and the answer must not be the wanted one.
+    Byte,
+    Unlike,
+    // The record, the out buffer or both are of `to` bytes.
+    Record,
+    Lent,
+    Sizes,
+    // A gateway `to` of `at` is started.
+    Gateway,
+    // The state.
+    Harm(Harm),
 }
 
-// Did a change to the state come to what it must.
-fn state_wanted(s: State, changed: State, rec: [u8; 96], want: u32) -> bool {
-    if want == DIFFERS {
-        return !same_state(s, changed);
+impl TryFrom<u8> for Change {
+    // The letter of no change.
+    type Error = u8;
+
+    fn try_from(letter: u8) -> Result<Change, u8> {
+        match letter {
+            b'B' => Ok(Change::Byte),
+            b'U' => Ok(Change::Unlike),
+            b'R' => Ok(Change::Record),
+            b'L' => Ok(Change::Lent),
+            b'S' => Ok(Change::Sizes),
+            b'G' => Ok(Change::Gateway),
+            _ => Harm::try_from(letter).map(Change::Harm),
+        }
     }
-    answers(changed, rec, want)
 }
 
-// Did one change come to what it must: an answer and, where it refuses, state and out buffer back the same.
-fn as_wanted(s: State, rec: [u8; 96], word: u8, at: u32, to: u32, want: u32) -> bool {
-    match word {
-        BYTE => answers(s, with_byte(rec, at, to), want),
-        UNLIKE => call(s, with_byte(rec, at, to)).answer != want,
-        RECORD => answered_of(s, rec, to, WHOLE, want),
-        LENT => answered_of(s, rec, WHOLE, to, want),
-        SIZES => answered_of(s, rec, to, to, want),
-        GATEWAY => started(at, to) == want,
-        _ => state_wanted(s, harmed(s, word, at, to), rec, want),
+// What must come of a change.
+#[derive(Clone, Copy)]
+enum Want {
+    // The answer with this number, which in a script may be no answer's.
+    Answer(u32),
+    // Another state, whatever the answer.
+    Differs,
+}
+
+// By its number; 16 is no answer's, which go to 15.
+impl From<u32> for Want {
+    fn from(number: u32) -> Want {
+        match number {
+            16 => Want::Differs,
+            _ => Want::Answer(number),
+        }
+    }
+}
+
+impl Want {
+    // Is it this answer.
+    fn is(self, answer: Answer) -> bool {
+        match self {
+            Want::Answer(number) => number == answer as u32,
+            Want::Differs => false,
+        }
+    }
+}
+
+// Where `to` stands to `at`, by a number: below, at the same, above; with any other, anywhere.
+fn relation_of(number: u32) -> Option<Ordering> {
+    match number {
+        1 => Some(Ordering::Less),
+        2 => Some(Ordering::Equal),
+        3 => Some(Ordering::Greater),
+        _ => None,
     }
 }
 
 // The answer to a start.
-pub fn started(n: u32, own: u32) -> u32 {
-    let answer = start(n, own).answer;
-    number_of(answer)
+pub fn started(n: u32, own: u32) -> Answer {
+    start(n, own).answer
 }
 
-// Does `to` stand to `at` as it is to.
-fn stands(relation: u32, at: u32, to: u32) -> bool {
-    match relation {
-        BELOW => to < at,
-        ITSELF => to == at,
-        ABOVE => at < to,
-        _ => true,
+// A change of a state or a record at each `at`, each time over each `to` that stands so to it, and what must come of it.
+#[derive(Drop)]
+struct Sweep<'a> {
+    state: &'a State,
+    rec: &'a [u8; RECORD_BYTES],
+    word: Word,
+    to_first: u32,
+    to_last: u32,
+    relation: Option<Ordering>,
+    want: Want,
+}
+
+impl Sweep<'_> {
+    // A call with so many bytes of a record, zeros behind it, and of an out buffer: is it answered as wanted
+    // and, where it refuses, "state and out buffer come back the same".
+    fn answered(&self, s: &State, rec: &[u8; RECORD_BYTES], length: u32, room: u32) -> bool {
+        let mut long = [0; LONG];
+        long[..RECORD_BYTES].copy_from_slice(rec);
+        let mut out = [UNTOUCHED; LONG];
+        let mut t = *s;
+        let answer = step(
+            &mut t,
+            &long[..length as usize % LENGTHS],
+            &mut out[..room as usize % LENGTHS],
+        );
+        self.want.is(answer) && (answer == Answer::Taken || untouched(&out) && t == *s)
     }
-}
 
-// Every `to` beside one `at`.
-fn across(tally: Tally, s: State, rec: [u8; 96], sweep: Sweep, at: u32) -> Tally {
-    let mut t = tally;
-    for to in sweep.to_first..=sweep.to_last {
-        if stands(sweep.relation, at, to) {
-            t = counted(t, as_wanted(s, rec, sweep.word, at, to, sweep.want));
+    // Did a change of the state come to what it must.
+    fn state_wanted(&self, changed: &State) -> bool {
+        match self.want {
+            Want::Differs => changed != self.state,
+            Want::Answer(_) => self.answered(changed, self.rec, WHOLE, WHOLE),
         }
     }
-    t
-}
 
-// The numbers of an order as a sweep.
-fn sweep_of(order: Order) -> Sweep {
-    let numbers = order.numbers;
-    Sweep {
-        word: order.word,
-        at_first: numbers[0],
-        at_last: numbers[1],
-        to_first: numbers[2],
-        to_last: numbers[3],
-        relation: numbers[4],
-        want: numbers[5],
+    // Did a change come to what it must.
+    fn as_wanted(&self, at: u32, to: u32) -> bool {
+        let Word::Change(change) = self.word else {
+            return self.state_wanted(self.state);
+        };
+        match change {
+            Change::Byte => {
+                self.answered(self.state, &with_byte(self.rec, at, to), WHOLE, WHOLE)
+            }
+            Change::Unlike => {
+                let got = call(self.state, &with_byte(self.rec, at, to));
+                !self.want.is(got.answer)
+            }
+            Change::Record => self.answered(self.state, self.rec, to, WHOLE),
+            Change::Lent => self.answered(self.state, self.rec, WHOLE, to),
+            Change::Sizes => self.answered(self.state, self.rec, to, to),
+            Change::Gateway => self.want.is(started(at, to)),
+            Change::Harm(harm) => self.state_wanted(&harm.done(self.state, at, to)),
+        }
+    }
+
+    // Every `to` beside one `at`.
+    fn across(&self, tally: &mut Tally, at: u32) {
+        for to in self.to_first..=self.to_last {
+            if self.relation.is_none_or(|relation| to.cmp(&at) == relation) {
+                tally.count(self.as_wanted(at, to));
+            }
+        }
     }
 }
 
 // Every change of an order.
-pub fn swept(tally: Tally, s: State, rec: [u8; 96], order: Order) -> Tally {
-    let sweep = sweep_of(order);
-    let mut t = tally;
-    for at in sweep.at_first..=sweep.at_last {
-        t = across(t, s, rec, sweep, at);
+pub fn swept(tally: &mut Tally, state: &State, rec: &[u8; RECORD_BYTES], order: &Order) {
+    let [at_first, at_last, to_first, to_last, relation, want] = order.numbers;
+    let sweep = Sweep {
+        state,
+        rec,
+        word: order.word,
+        to_first,
+        to_last,
+        relation: relation_of(relation),
+        want: Want::from(want),
+    };
+    for at in at_first..=at_last {
+        sweep.across(tally, at);
     }
-    t
 }

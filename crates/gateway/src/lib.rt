@@ -9,14 +9,14 @@ ghost use Rattle.std.specs.Prelude.{◌≡◌};
 ghost use Rattle.pala.specs.Lists.{relation, relation_code};
 ghost use Rattle.pala.specs.Run.{Ran, run};
 
-use runs::run;
+use runs::{code, run};
 
 // "A run: n, own number, a slice of records one after the other, a list buffer."
 #[unsafe(no_mangle)]
 pub extern "C" fn oanhvidet_run(n: u32, own: u32, records: &[u8], list: &mut [u8]) -> u64
     ensures { ◌≡◌ {A = Ran} (record { code = result; list = list.new }) (run n own records.now list.old) }
 {
-    run(n, own, records, list)
+    code(run(n, own, records, list))
 }
 
 // "The relation reaches C as relation x 2^60 + index."

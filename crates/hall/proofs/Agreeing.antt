@@ -1,252 +1,214 @@
--- The final lists in lent bytes, and whether of any two honest ones one begins the other. Assumes nothing.
-use Prim.Native.Nat.{ℕ, ◌+◌, ◌-◌, ◌*◌, ◌≤◌, ◌<◌, min}
+-- The final lists of the honest gateways, and whether of any two one begins the other. Assumes nothing.
+use Rattle.pala.proofs.Playing.{names_few}
+use Prim.Native.Nat.{ℕ, ◌+◌, ◌*◌, ◌≤◌, ◌<◌}
 use mathlib.Core.Bool.{Bool, true, false, not, ◌&&◌, ◌||◌}
-use mathlib.Core.List.{List}
-use mathlib.Core.Logic.{◌≢◌, ◌⊎◌, inl, inr}
-use mathlib.Core.Path.{◌≡◌, refl, sym, ap, ap₂, subst, ◌∙◌}
-use native.Mathlib.Decide.{dec_le, dec_lt, ℕ_discrete}
+use mathlib.Core.List.{List, [], ◌++◌}
+use mathlib.Core.Logic.{◌⊎◌, inl, inr}
+use mathlib.Core.Path.{◌≡◌, refl, sym, ap, ap₂, ◌∙◌}
+use native.Mathlib.Decide.{dec_le, ℕ_discrete}
 use native.Mathlib.Omega.{arith}
 use borrow.Author.Count.{below_more}
-use borrow.Author.Tests.{eqb-true, eq-eqb}
-use lib.Dec.{eqb}
-use lib.ListN.{length, get_or, take, drop, set, replicate, get_or-replicate, length-set}
-use lib.Seq.{get_or-take, get_or-set_same, get_or-set_other, length-take-le}
+use borrow.Author.Tests.{le-ltb, not-true}
+use lib.Dec.{ltb}
+use lib.ListN.{length, take, drop, length-append, length-drop, length-take}
+use lib.Seq.{length-take-le, take-take, take_all}
+use Rattle.std.proofs.Common.{Result, Ok}
+use Rattle.std.proofs.lemmas.List.{take_at}
+use Rattle.table.specs.declared.Answer.{Answer}
 use Rattle.table.specs.declared.State.{State}
 use Rattle.table.specs.Rows.{capacity, name_bytes}
-use Rattle.table.specs.Scan.{all_below}
-use Rattle.table.proofs.Laws.{not_both, same_test, all_below-at, all_below_all, same_all, same_true}
-use Rattle.pala.specs.Lists.{final_names, joined}
-use Rattle.pala.specs.Run.{full_list}
-use Rattle.pala.proofs.Shapes
-use Rattle.pala.proofs.Tests.{or_cases, or_l, or_r, either}
-use Rattle.lines.specs.Text.{written}
-use Rattle.lines.proofs.Laws.{length-written}
+use Rattle.table.specs.Bytes.{same}
+use Rattle.table.specs.Scan.{all_below, pick}
+use Rattle.table.proofs.Laws.{fails, not_both, pick_no, same_refl, same_true, all_below-at, all_below_all, all_below_same}
+use Rattle.pala.specs.Lists.{final_list, list_answer, listed, final_names, joined}
+use Rattle.pala.specs.Answers.{answered, lowest_of, number, taken}
+use Rattle.pala.specs.Shape.{well_shaped}
+use Rattle.pala.proofs.Tests.{and_both, and_l, and_r, or_cases, or_l, or_r, either}
 use Rattle.accord.specs.declared.Hall.{Hall}
 use Rattle.accord.specs.Head.{most_gateways, gateway, honest_in}
 use Rattle.accord.specs.Rulings.{seated}
 use Rattle.accord.specs.Words.{list_of, begins, one_begins, agree}
 use Rattle.accord.proofs.Halls.{seated-same, seated_other}
-use Rattle.hall.specs.Kept.{Kept}
-use Rattle.hall.specs.Lists.{Fit, Listed, agree_in, begun, list_at, lists_bytes}
-use Rattle.hall.proofs.Parts.{below_alike, part_here, part_before, part_after}
-use Rattle.hall.proofs.Seated.{honest_same, kept_seat}
+
+-- ---- a final list written into a room for the longest
+
+-- what reading it into one tells: its count, and its names' bytes
+pub record Whole (s : State) (room : List ℕ) (r : Result ℕ Answer) : Type 0 where
+  pub count : r ≡ Ok (length (final_names s))
+  pub few : length (final_names s) ≤ capacity
+  pub names : take (name_bytes * length (final_names s)) room ≡ joined (final_names s)
+
+-- they are 32 bytes each, since the room is as long as before
+pub whole_list :
+    (s : State) (room later : List ℕ) (r : Result ℕ Answer) → well_shaped s ≡ true → length room ≡ name_bytes * capacity → length later ≡ length room
+    → r ≡ answered (final_list s room).answer (final_list s room).count → later ≡ (final_list s room).list → Whole s later r
+unfolding final_list listed list_answer lowest_of answered taken number pick
+whole_list s room later r shaped long same e f =
+    let names : List ℕ = joined (final_names s) in
+    let size : ℕ = name_bytes * length (final_names s) in
+    let few = names_few s shaped in
+    let answer : list_answer s room ≡ Answer.Taken =
+    pick_no (not (well_shaped s)) Answer.State _ (ap not shaped)
+    ∙ pick_no (ltb (length room) size) Answer.Length Answer.Taken (le-ltb _ _ (omega arith)) in
+    let there : later ≡ names ++ drop size room = f ∙ ap (λ (a : Answer). (listed a s room).list) answer in
+    let whole : length names ≡ size = omega (arith, ap length there, length-append names (drop size room), length-drop size room) in
+    record {
+      count = e ∙ ap (λ (a : Answer). answered a (listed a s room).count) answer;
+      few = few;
+      names = ap (take size) there ∙ take_at names (drop size room) size whole;
+    }
+
+-- ---- tests that are the same of each number
 
 -- ---- one begins the other
 
--- by their bytes
-begins_of : (a b : List ℕ) → length a ≤ length b → ((i : ℕ) → i < length a → get_or a i 0 ≡ get_or b i 0) → begins a b ≡ true
+-- the first is as long at most, and the second begins with it
+begins_is : (a b : List ℕ) → begins a b ≡ true → (a ≡ take (length a) b) × (length a ≤ length b)
 unfolding begins
-begins_of a b l e =
-    same_all a (take (length a) b) (length a) refl (length-take-le (length a) b l) (λ i m. e i m ∙ sym (get_or-take (length a) b i 0 m))
+begins_is a b h =
+    let e = same_true a (take (length a) b) h in
+    (e, omega (arith, ap length e, length-take (length a) b))
 
-begins_byte : (a b : List ℕ) → begins a b ≡ true → (i : ℕ) → i < length a → get_or a i 0 ≡ get_or b i 0
+begins_of : (a b : List ℕ) (n : ℕ) → a ≡ take n b → n ≤ length b → begins a b ≡ true
 unfolding begins
-begins_byte a b h i m = ap (λ (l : List ℕ). get_or l i 0) (same_true a (take (length a) b) h) ∙ get_or-take (length a) b i 0 m
+begins_of a b n e l =
+    let long : length a ≡ n = ap length e ∙ length-take-le n b l in
+    ap (λ (x : List ℕ). same a x) (ap (λ (k : ℕ). take k b) long ∙ sym e) ∙ same_refl a
 
--- the bytes that both have are the same
-pub one-begins-is : (a b : List ℕ) (end : ℕ) → end ≡ min (length a) (length b) → all_below end (λ i. eqb (get_or a i 0) (get_or b i 0)) ≡ one_begins a b
+-- in either order
+one_either : (a b : List ℕ) → one_begins a b ≡ true → one_begins b a ≡ true
 unfolding one_begins
-one-begins-is a b end e =
-    let ok : ℕ → Bool = λ i. eqb (get_or a i 0) (get_or b i 0) in
-    same_test (all_below end ok) (begins a b || begins b a)
-    (λ h.
-    let byte : (i : ℕ) → i < end → get_or a i 0 ≡ get_or b i 0 = λ i m. eqb-true (get_or a i 0) (get_or b i 0) (all_below-at end ok h i m) in
-    elim (dec_le (length a) (length b)) [
-      | yes l ↦ or_l (begins a b) (begins b a) (begins_of a b l (λ i m. byte i (omega arith)))
-      | no l ↦ or_r (begins a b) (begins b a) (begins_of b a (omega arith) (λ i m. sym (byte i (omega arith))))
-    ])
-    (λ h. all_below_all end ok (λ i m. eq-eqb (get_or a i 0) (get_or b i 0) (byte i (omega arith) (omega arith) (or_cases (begins a b) (begins b a) h))))
+one_either a b h = go (or_cases (begins a b) (begins b a) h)
   where
-    byte : (i : ℕ) → i < length a → i < length b → (begins a b ≡ true) ⊎ (begins b a ≡ true) → get_or a i 0 ≡ get_or b i 0
-    byte i l m (inl h) = begins_byte a b h i l
-    byte i l m (inr h) = sym (begins_byte b a h i m)
+    go : (begins a b ≡ true) ⊎ (begins b a ≡ true) → (begins b a || begins a b) ≡ true
+    go (inl e) = or_r (begins b a) (begins a b) e
+    go (inr e) = or_l (begins b a) (begins a b) e
 
--- ---- of two numbers
+-- two that begin a third
+both_begin : (a b l : List ℕ) → begins a l ≡ true → begins b l ≡ true → one_begins a b ≡ true
+unfolding one_begins
+both_begin a b l f g =
+    let (e, m) = begins_is a l f in
+    let (h, n) = begins_is b l g in
+    elim (dec_le (length a) (length b)) [
+      | yes k ↦ or_l (begins a b) (begins b a) (begins_of a b (length a) (e ∙ sym (ap (take (length a)) h ∙ take-take (length a) (length b) l k)) k)
+      | no k ↦ or_r (begins a b) (begins b a) (begins_of b a (length b) (h ∙ sym (ap (take (length b)) e ∙ take-take (length b) (length a) l (omega arith))) (omega arith))
+    ]
 
-module _ (lists counts : List ℕ) (honest : List Bool) (i j : ℕ) where
-  -- who isn't honest isn't asked
-  pub begun-not : (get_or honest i false && get_or honest j false) ≡ false → begun lists counts honest i j ≡ true
-  unfolding begun
-  begun-not f = ap (λ t. not t || one_begins (list_at lists counts i) (list_at lists counts j)) f
+-- the shorter of two begins the other, and so does what begins it
+shorter_begins : (a b : List ℕ) → one_begins a b ≡ true → length a ≤ length b → begins a b ≡ true
+unfolding one_begins
+shorter_begins a b h l = go (or_cases (begins a b) (begins b a) h)
+  where
+    go : (begins a b ≡ true) ⊎ (begins b a ≡ true) → begins a b ≡ true
+    go (inl e) = e
+    go (inr e) = let (f, m) = begins_is b a e in begins_of a b (length b) (sym (f ∙ take_all (length b) a l) ∙ sym (take_all (length b) b (omega arith))) (omega arith)
 
-  begun_lists : get_or honest i false ≡ true → get_or honest j false ≡ true
-      → begun lists counts honest i j ≡ one_begins (list_at lists counts i) (list_at lists counts j)
-  unfolding begun
-  begun_lists a b =
-      ap (λ t. not t || one_begins (list_at lists counts i) (list_at lists counts j)) (Shapes.and_both (get_or honest i false) (get_or honest j false) a b)
+begins_on : (a b c : List ℕ) → begins a b ≡ true → begins b c ≡ true → begins a c ≡ true
+begins_on a b c f g =
+    let (e, l) = begins_is a b f in
+    let (h, m) = begins_is b c g in
+    begins_of a c (length a) (e ∙ ap (take (length a)) h ∙ take-take (length a) (length b) c l) (omega arith)
 
-  -- .. each read as the part of its room that its count tells
-  pub begun_read : {r : Bool} {k m : ℕ} → k ≡ name_bytes * get_or counts i 0 → m ≡ name_bytes * get_or counts j 0
-      → get_or honest i false ≡ true → get_or honest j false ≡ true
-      → r ≡ one_begins (take (full_list * i + k - full_list * i) (drop (full_list * i) lists)) (take (full_list * j + m - full_list * j) (drop (full_list * j) lists))
-      → r ≡ begun lists counts honest i j
-  begun_read {r} {k} {m} e f a b told =
-      let first : full_list * i + k - full_list * i ≡ name_bytes * get_or counts i 0 = omega arith in
-      let second : full_list * j + m - full_list * j ≡ name_bytes * get_or counts j 0 = omega arith in
-      told
-      ∙ ap₂ (λ x y. one_begins (take x (drop (full_list * i) lists)) (take y (drop (full_list * j) lists))) first second
-      ∙ sym (begun_lists a b)
+begins_refl : (a : List ℕ) → begins a a ≡ true
+begins_refl a = begins_of a a (length a) (sym (take_all (length a) a (omega arith))) (omega arith)
 
--- ---- the whole
-
--- one who isn't honest agrees with all before
-pub begun_none : (lists counts : List ℕ) (honest : List Bool) (i : ℕ) → get_or honest i false ≡ false → all_below i (begun lists counts honest i) ≡ true
-begun_none lists counts honest i f =
-    all_below_all i (begun lists counts honest i) (λ j _. begun-not lists counts honest i j (ap (λ t. t && get_or honest j false) f))
-
-module _ {h : Hall} {lists counts : List ℕ} (w : Listed h lists counts) where
-  -- what stands in the bytes is asked of the lists themselves
-  pub agree-is : agree_in lists counts h.honest ≡ agree h
-  unfolding agree_in agree begun honest_in
-  agree-is =
-      let said : ℕ → ℕ → Bool = λ i j. not (honest_in h i && honest_in h j) || one_begins (list_of h i) (list_of h j) in
-      below_alike most_gateways (λ i. all_below i (begun lists counts h.honest i)) (λ i. all_below i (said i))
-      (λ i l. below_alike i (begun lists counts h.honest i) (said i) (λ j m. pair i j l (omega arith) (either (honest_in h i && honest_in h j))))
-    where
-      pair : (i j : ℕ) → i < most_gateways → j < most_gateways → ((honest_in h i && honest_in h j) ≡ true) ⊎ ((honest_in h i && honest_in h j) ≡ false)
-          → begun lists counts h.honest i j ≡ (not (honest_in h i && honest_in h j) || one_begins (list_of h i) (list_of h j))
-      pair i j l m (inl e) =
-          let a : honest_in h i ≡ true = Shapes.and_l (honest_in h i) (honest_in h j) e in
-          let b : honest_in h j ≡ true = Shapes.and_r (honest_in h i) (honest_in h j) e in
-          ap₂ (λ x y. not (honest_in h i && honest_in h j) || one_begins x y) (w.held i l a) (w.held j m b)
-      pair i j l m (inr e) = begun-not lists counts h.honest i j e ∙ sym (ap (λ t. not t || one_begins (list_of h i) (list_of h j)) e)
-
--- ---- a list written
-
--- names of 32 bytes each, written into the room of gateway i
-module _ (lists counts : List ℕ) (fit : Fit lists counts) (i : ℕ) (l : i < most_gateways) (bytes : List ℕ) (count : ℕ)
-    (whole : length bytes ≡ name_bytes * count) (most : count ≤ capacity) where
-  new_counts : List ℕ
-  new_counts = set counts i count
-
-  inside : full_list * i + length bytes ≤ length lists
-  inside = omega (arith, fit.long)
-
-  count_here : get_or new_counts i 0 ≡ count
-  unfolding new_counts
-  count_here = get_or-set_same counts i count 0 (omega (arith, fit.many))
-
-  count_other : (j : ℕ) → j ≢ i → get_or new_counts j 0 ≡ get_or counts j 0
-  unfolding new_counts
-  count_other j d = get_or-set_other counts i j count 0 d
-
-  pub fit_written : Fit (written lists (full_list * i) bytes) (set counts i count)
-  unfolding new_counts
-  fit_written =
-      record {
-        long = length-written lists (full_list * i) bytes inside ∙ fit.long;
-        many = length-set counts i count ∙ fit.many;
-        most = λ j m. few j m (ℕ_discrete j i);
-      }
-    where
-      few : (j : ℕ) → j < most_gateways → Dec (j ≡ i) → get_or new_counts j 0 ≤ capacity
-      few j m (yes e) = omega (arith, ap (λ k. get_or new_counts k 0) e, count_here)
-      few j m (no d) = omega (arith, count_other j d, fit.most j m)
-
-  pub list_here : list_at (written lists (full_list * i) bytes) (set counts i count) i ≡ bytes
-  unfolding new_counts
-  list_here =
-      let ends : name_bytes * get_or new_counts i 0 ≡ length bytes = omega (arith, count_here) in
-      ap (λ k. take k (drop (full_list * i) (written lists (full_list * i) bytes))) ends
-      ∙ part_here lists (full_list * i) bytes inside
-
-  pub list_other : (j : ℕ) → j < most_gateways → j ≢ i → list_at (written lists (full_list * i) bytes) (set counts i count) j ≡ list_at lists counts j
-  unfolding new_counts
-  list_other j m d =
-      let size : ℕ = name_bytes * get_or counts j 0 in
-      let few : size ≤ full_list = omega (arith, fit.most j m) in
-      ap (λ k. take (name_bytes * k) (drop (full_list * j) (written lists (full_list * i) bytes))) (count_other j d)
-      ∙ elim (dec_lt j i) [
-        | yes a ↦ part_before lists (full_list * i) bytes inside (full_list * j) size (omega arith)
-        | no a ↦ ap (take size) (part_after lists (full_list * i) bytes inside (full_list * j) (omega arith))
-      ]
+none_begins : (a : List ℕ) → begins [] a ≡ true
+unfolding begins same
+none_begins a = refl
 
 -- ---- one gateway after the other
 
--- the lists of the honest numbers below k stand there
-pub record ListedTo (h : Hall) (k : ℕ) (lists counts : List ℕ) : Type 0 where
-  pub fit : Fit lists counts
-  pub held : (i : ℕ) → i < k → honest_in h i ≡ true → list_at lists counts i ≡ list_of h i
+-- what is read of an honest number's state is its list
+pub list_here : (h : Hall) (i : ℕ) {s : State} {names : List ℕ} → s ≡ gateway h i → names ≡ joined (final_names s) → names ≡ list_of h i
+unfolding list_of
+list_here h i e f = f ∙ ap (λ (x : State). joined (final_names x)) e
 
--- the same bytes and counts, otherwise worded
-pub listed_as : {h : Hall} {k : ℕ} {lists counts after new : List ℕ} → after ≡ lists → new ≡ counts → ListedTo h k lists counts → ListedTo h k after new
-listed_as {h} {k} {lists} {new = new} e f w = subst (λ x. ListedTo h k x new) (sym e) (subst (λ x. ListedTo h k lists x) (sym f) w)
+-- the longest list of the honest numbers below k: each of theirs begins it
+pub record Longest (h : Hall) (k : ℕ) (l : List ℕ) : Type 0 where
+  pub each : (i : ℕ) → i < k → honest_in h i ≡ true → begins (list_of h i) l ≡ true
+  pub own : (l ≡ []) ⊎ ((j : ℕ) × (j < k) × (honest_in h j ≡ true) × (l ≡ list_of h j))
 
-pub listed_none : {h : Hall} {lists : List ℕ} → length lists ≡ lists_bytes → ListedTo h 0 lists (replicate most_gateways 0)
-listed_none e =
-    record {
-      fit = record { long = e; many = refl; most = λ i l. omega (arith, get_or-replicate {A = ℕ} most_gateways i 0 0 l) };
-      held = λ i l. absurd (omega arith);
-    }
-
-module _ {h : Hall} {lists counts : List ℕ} {i : ℕ} (w : ListedTo h i lists counts) where
-  pub listed_all : i ≡ most_gateways → Listed h lists counts
-  listed_all e = record { fit = w.fit; held = λ j l. w.held j (omega arith) }
+module _ {h : Hall} {k : ℕ} {l : List ℕ} (w : Longest h k l) where
+  still_own : (l ≡ []) ⊎ ((j : ℕ) × (j < k + 1) × (honest_in h j ≡ true) × (l ≡ list_of h j))
+  still_own = go w.own
+    where
+      go : (l ≡ []) ⊎ ((j : ℕ) × (j < k) × (honest_in h j ≡ true) × (l ≡ list_of h j)) → (l ≡ []) ⊎ ((j : ℕ) × (j < k + 1) × (honest_in h j ≡ true) × (l ≡ list_of h j))
+      go (inl e) = inl e
+      go (inr (j, m, y, e)) = inr (j, omega arith, y, e)
 
   -- one who isn't honest is passed over
-  pub listed_silent : honest_in h i ≡ false → ListedTo h (i + 1) lists counts
-  listed_silent f = record { fit = w.fit; held = below_more (λ j. honest_in h j ≡ true → list_at lists counts j ≡ list_of h j) i w.held (λ y. absurd (not_both y f)) }
+  pub longest_silent : honest_in h k ≡ false → Longest h (k + 1) l
+  longest_silent f =
+      record { each = below_more (λ i. honest_in h i ≡ true → begins (list_of h i) l ≡ true) k w.each (λ y. absurd (not_both y f)); own = still_own }
 
-  -- .. and the list of one whose state is s is written
-  pub listed_more : (s : State) (count : ℕ) → s ≡ gateway h i → i < most_gateways → count ≤ capacity → length (joined (final_names s)) ≡ name_bytes * count
-      → ListedTo h (i + 1) (written lists (full_list * i) (joined (final_names s))) (set counts i count)
-  unfolding list_of
-  listed_more s count at l most whole =
-      let bytes : List ℕ = joined (final_names s) in
-      record {
-        fit = fit_written lists counts w.fit i l bytes count whole most;
-        held =
-            below_more (λ j. honest_in h j ≡ true → list_at (written lists (full_list * i) bytes) (set counts i count) j ≡ list_of h j) i
-            (λ j m y. list_other lists counts w.fit i l bytes count whole most j (omega arith) (λ e. omega arith) ∙ w.held j m y)
-            (λ y. list_here lists counts w.fit i l bytes count whole most ∙ ap (λ x. joined (final_names x)) at);
-      }
+  module _ {x : List ℕ} (y : honest_in h k ≡ true) (here : x ≡ list_of h k) where
+    -- a longer list is the longest now, ..
+    pub longest_new : one_begins x l ≡ true → length l < length x → Longest h (k + 1) x
+    longest_new e m =
+        let on : begins l x ≡ true = shorter_begins l x (one_either x l e) (omega arith) in
+        record {
+          each =
+              below_more (λ i. honest_in h i ≡ true → begins (list_of h i) x ≡ true) k (λ i n z. begins_on (list_of h i) l x (w.each i n z) on)
+              (λ z. ap (λ (a : List ℕ). begins a x) (sym here) ∙ begins_refl x);
+          own = inr (k, omega arith, y, here);
+        }
 
--- ---- one gateway's state moved
+    -- .. and another leaves the one before
+    pub longest_still : one_begins x l ≡ true → length x ≤ length l → Longest h (k + 1) l
+    longest_still e m =
+        record {
+          each =
+              below_more (λ i. honest_in h i ≡ true → begins (list_of h i) l ≡ true) k w.each
+              (λ z. ap (λ (a : List ℕ). begins a l) (sym here) ∙ shorter_begins x l e m);
+          own = still_own;
+        }
 
-module _ {h : Hall} {lists counts : List ℕ} (k : Kept h) (w : Listed h lists counts) (i : ℕ) (l : i < h.n) (t : State) where
-  list-new : list_of (seated h i t) i ≡ joined (final_names t)
-  unfolding list_of
-  list-new = ap (λ s. joined (final_names s)) (seated-same h i t (kept_seat k i l))
+    -- a fork
+    pub longest-forks : k < most_gateways → one_begins x l ≡ false → false ≡ agree h
+    unfolding agree one_begins
+    longest-forks m f = sym (fails (agree h) (λ t. go t w.own))
+      where
+        said : ℕ → ℕ → Bool
+        said i j = not (honest_in h i && honest_in h j) || one_begins (list_of h i) (list_of h j)
 
-  list_old : (j : ℕ) → j ≢ i → list_of (seated h i t) j ≡ list_of h j
-  unfolding list_of
-  list_old j d = ap (λ s. joined (final_names s)) (seated_other h i t j d)
+        apart : (j : ℕ) → honest_in h j ≡ true → l ≡ list_of h j → (not (honest_in h k && honest_in h j) ≡ true) ⊎ (one_begins (list_of h k) (list_of h j) ≡ true) → ⊥
+        apart j z e (inl t) = not_both (and_both (honest_in h k) (honest_in h j) y z) (not-true (honest_in h k && honest_in h j) t)
+        apart j z e (inr t) = not_both (ap₂ one_begins here e ∙ t) f
 
-  -- its final list is written, and no other's changes
-  pub listed-written : {count : ℕ} → count ≤ capacity → length (joined (final_names t)) ≡ name_bytes * count
-      → Listed (seated h i t) (written lists (full_list * i) (joined (final_names t))) (set counts i count)
-  listed-written {count} most whole = record { fit = fit_written lists counts w.fit i low bytes count whole most; held = λ j m y. held j m y (ℕ_discrete j i) }
-    where
-      bytes : List ℕ
-      bytes = joined (final_names t)
+        go : agree h ≡ true → (l ≡ []) ⊎ ((j : ℕ) × (j < k) × (honest_in h j ≡ true) × (l ≡ list_of h j)) → ⊥
+        go t (inl e) = not_both (or_r (begins x l) (begins l x) (ap (λ (a : List ℕ). begins a x) e ∙ none_begins x)) f
+        go t (inr (j, n, z, e)) =
+            apart j z e
+            (or_cases (not (honest_in h k && honest_in h j)) (one_begins (list_of h k) (list_of h j))
+            (all_below-at k (said k) (all_below-at most_gateways (λ i. all_below i (said i)) t k m) j n))
 
-      low : i < most_gateways
-      low = omega (arith, k.most)
+pub longest_all : {h : Hall} {l : List ℕ} → Longest h most_gateways l → true ≡ agree h
+unfolding agree
+longest_all {h} {l} w =
+    sym (all_below_all most_gateways (λ i. all_below i (said i)) (λ i m. all_below_all i (said i) (λ j n. pair i j m (omega arith) (either (honest_in h i && honest_in h j)))))
+  where
+    said : ℕ → ℕ → Bool
+    said i j = not (honest_in h i && honest_in h j) || one_begins (list_of h i) (list_of h j)
 
-      held : (j : ℕ) → j < most_gateways → honest_in (seated h i t) j ≡ true → Dec (j ≡ i)
-          → list_at (written lists (full_list * i) bytes) (set counts i count) j ≡ list_of (seated h i t) j
-      held j m y (yes e) =
-          subst (λ x. list_at (written lists (full_list * i) bytes) (set counts i count) x ≡ list_of (seated h i t) x) (sym e)
-          (list_here lists counts w.fit i low bytes count whole most ∙ sym list-new)
-      held j m y (no d) =
-          list_other lists counts w.fit i low bytes count whole most j m d
-          ∙ w.held j m (sym (honest_same h i t j) ∙ y)
-          ∙ sym (list_old j d)
+    pair : (i j : ℕ) → i < most_gateways → j < most_gateways → ((honest_in h i && honest_in h j) ≡ true) ⊎ ((honest_in h i && honest_in h j) ≡ false) → said i j ≡ true
+    pair i j m n (inl e) =
+        or_r (not (honest_in h i && honest_in h j)) (one_begins (list_of h i) (list_of h j))
+        (both_begin (list_of h i) (list_of h j) l (w.each i m (and_l (honest_in h i) (honest_in h j) e)) (w.each j n (and_r (honest_in h i) (honest_in h j) e)))
+    pair i j m n (inr e) = or_l (not (honest_in h i && honest_in h j)) (one_begins (list_of h i) (list_of h j)) (ap not e)
 
-  module _ (same : final_names t ≡ final_names (gateway h i)) where
+-- ---- the same final names leave yes or no
+
+pub agree_same : (h : Hall) (i : ℕ) (t : State) → i < length h.states → final_names t ≡ final_names (gateway h i) → agree (seated h i t) ≡ agree h
+unfolding agree seated honest_in list_of
+agree_same h i t l same =
+    let said : Hall → ℕ → ℕ → Bool = λ g a b. not (honest_in g a && honest_in g b) || one_begins (list_of g a) (list_of g b) in
+    all_below_same most_gateways (λ a. all_below a (said (seated h i t) a)) (λ a. all_below a (said h a))
+    (λ a m. all_below_same a (said (seated h i t) a) (said h a) (λ b n. ap₂ (λ x y. not (honest_in h a && honest_in h b) || one_begins x y) (list_same a) (list_same b)))
+  where
     list_same : (j : ℕ) → list_of (seated h i t) j ≡ list_of h j
-    unfolding list_of
     list_same j =
         elim (ℕ_discrete j i) [
-          | yes e ↦ subst (λ x. list_of (seated h i t) x ≡ list_of h x) (sym e) (list-new ∙ ap joined same)
-          | no d ↦ list_old j d
+          | yes e ↦ ap (list_of (seated h i t)) e ∙ ap (λ s. joined (final_names s)) (seated-same h i t l) ∙ ap joined same ∙ sym (ap (list_of h) e)
+          | no d ↦ ap (λ s. joined (final_names s)) (seated_other h i t j d)
         ]
-
-    -- the final names stay, and so does what stands in the bytes ..
-    pub listed_same : Listed (seated h i t) lists counts
-    listed_same = record { fit = w.fit; held = λ j m y. w.held j m (sym (honest_same h i t j) ∙ y) ∙ sym (list_same j) }
-
-    -- .. and yes or no
-    pub agree_same : agree (seated h i t) ≡ agree h
-    unfolding seated
-    agree_same = sym (agree-is listed_same) ∙ agree-is w

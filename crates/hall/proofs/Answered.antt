@@ -1,5 +1,5 @@
 -- What a piece of a hall's recording answers: the first of its three refusals that applies, or it is played. Assumes nothing.
-use Prim.Native.Nat.{ℕ, ◌+◌, ◌*◌, ◌/◌, ◌≤◌, ◌<◌}
+use Prim.Native.Nat.{ℕ, ◌+◌, ◌*◌, ◌≤◌, ◌<◌}
 use mathlib.Core.Bool.{true, false, not}
 use mathlib.Core.List.{List}
 use mathlib.Core.Path.{◌≡◌, ap, ◌∙◌}
@@ -13,15 +13,16 @@ use Rattle.table.proofs.Laws.{pick_yes, pick_no}
 use Rattle.pala.specs.Answers.{number, taken, lowest_of}
 use Rattle.pala.specs.Run.{cut}
 use Rattle.pala.proofs.Stretches.{cut-count}
+use Rattle.std.specs.Int.{div_ceil}
 use Rattle.lines.specs.Play.{last_number}
 use Rattle.accord.specs.declared.Hall.{Hall}
 use Rattle.accord.specs.Head.{hall_shaped}
 use Rattle.accord.specs.Text.{sent_bytes}
-use Rattle.hall.specs.Play.{HallPiece, hall_answer, hall_piece, play_hall, hall_line_most}
+use Rattle.hall.specs.Play.{HallPiece, HallReady, hall_answer, hall_piece, play_hall, hall_line_most}
 
--- there is a record for each stretch begun
-pub sent-count : (bytes : List ℕ) → length (cut sent_bytes bytes) ≡ (length bytes + 96) / sent_bytes
-sent-count bytes = let counted = cut-count sent_bytes (omega arith) bytes in omega (arith, counted.0, counted.1)
+-- `div_ceil` counts the records, one for each stretch begun
+pub sent-number : (input : List ℕ) {count : ℕ} → count ≡ div_ceil (length input) sent_bytes → count ≡ length (cut sent_bytes input)
+sent-number input e = let counted = cut-count sent_bytes (omega arith) input in omega (arith, e, counted.0, counted.1)
 
 module _ (h : Hall) (before : ℕ) (input text : List ℕ) where
   -- a refusal hands everything back
@@ -49,10 +50,13 @@ module _ (h : Hall) (before : ℕ) (input text : List ℕ) where
           ∙ pick_no (ltb (length text) (hall_line_most * length (cut sent_bytes input))) Answer.Length _ (le-ltb _ _ fits)
           ∙ pick_yes (ltb last_number (before + length (cut sent_bytes input))) Answer.Full _ (lt-ltb _ _ l))
 
-      pub piece-played : before + length (cut sent_bytes input) ≤ last_number → play_hall h before input text ≡ hall_piece Answer.Taken h before input text
+      pub piece_played : before + length (cut sent_bytes input) ≤ last_number → play_hall h before input text ≡ hall_piece Answer.Taken h before input text
       unfolding play_hall hall_answer lowest_of
-      piece-played l =
+      piece_played l =
           ap (λ (a : Answer). hall_piece a h before input text)
           (pick_no (not (hall_shaped h)) Answer.State _ (ap not e)
           ∙ pick_no (ltb (length text) (hall_line_most * length (cut sent_bytes input))) Answer.Length _ (le-ltb _ _ fits)
           ∙ pick_no (ltb last_number (before + length (cut sent_bytes input))) Answer.Full _ (le-ltb _ _ l))
+
+  pub piece_ready : HallReady h before input text → play_hall h before input text ≡ hall_piece Answer.Taken h before input text
+  piece_ready r = piece_played r.shaped r.fits r.number

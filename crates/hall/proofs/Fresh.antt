@@ -1,30 +1,48 @@
 -- What a head opens. Assumes nothing.
-use Prim.Native.Nat.{ℕ, ◌/◌, ◌%◌, ◌^◌, ◌≤◌, ◌<◌}
+use Prim.Native.Nat.{ℕ, zero, suc, ◌+◌, ◌/◌, ◌%◌, ◌^◌, ◌≤◌, ◌<◌}
 use mathlib.Core.Bool.{Bool, true, false, not, ◌&&◌, ◌||◌}
 use mathlib.Core.List.{List, [], ◌∷◌, map}
-use mathlib.Core.Path.{◌≡◌, refl, sym, ap, ◌∙◌}
+use mathlib.Core.Path.{◌≡◌, refl, sym, ap, subst, ◌∙◌}
+use native.Mathlib.Decide.{ℕ_discrete}
 use native.Mathlib.Omega.{arith}
 use borrow.Author.Tests.{le-leb}
 use lib.Dec.{eqb, ltb, leb}
 use lib.ListN.{length, get_or}
+use lib.Seq.{ext_get_or}
+use denote.Param.Members.{Mut}
+use Rattle.std.proofs.Common.{Option, Some, None}
+use Rattle.std.specs.Array.{IsFromFnResult, IsFromFnResultFrom}
+use Rattle.std.specs.Fn.{Called}
 use Rattle.table.specs.declared.Answer.{Answer}
 use Rattle.table.specs.declared.State.{State}
-use Rattle.table.specs.Scan.{all_below}
-use Rattle.table.proofs.Laws.{pick_yes, pick_no, fails, not_both, all_below_all}
+use Rattle.table.specs.Scan.{all_below, pick}
+use Rattle.table.proofs.Laws.{pick_yes, pick_no, fails, not_both, all_below_all, all_below_same}
 use Rattle.pala.specs.Shape.{well_shaped}
 use Rattle.pala.specs.Step.{start}
 use Rattle.pala.proofs.Calls.{start-shaped, start-sized}
 use Rattle.pala.proofs.Shapes
+use Rattle.accord.specs.declared.Hall.{Hall}
 use Rattle.accord.specs.Head.{Opened, most_gateways, gateways, nodes_of, in_set, good_head, fresh_hall, no_hall, opened, gateway, honest_in, hall_shaped}
 use Rattle.accord.specs.Text.{hall_played}
-use Rattle.accord.proofs.Halls.{good_head_lem, fresh-gateway, fresh_honest}
-use Rattle.hall.proofs.Parts.{below_alike}
-use Rattle.hall.proofs.Seated.{low_test, hall_sound, hall-kept, kept-played, kept-shaped}
+use Rattle.accord.proofs.Halls.{for_each, good_head_lem, fresh-gateway, fresh_honest}
+use Rattle.hall.proofs.Named.{pick_none, pick_some}
+use Rattle.hall.proofs.Seated.{low_test, hall_sound, kept-played}
 
--- something for each of the eight numbers
-pub eight : {A : Type 0} (f : ℕ → A) {a b c d e g h i : A} → a ≡ f 0 → b ≡ f 1 → c ≡ f 2 → d ≡ f 3 → e ≡ f 4 → g ≡ f 5 → h ≡ f 6 → i ≡ f 7
-    → a ∷ b ∷ c ∷ d ∷ e ∷ g ∷ h ∷ i ∷ [] ≡ map f gateways
-eight f a b c d e g h i = λ x. a x ∷ b x ∷ c x ∷ d x ∷ e x ∷ g x ∷ h x ∷ i x ∷ []
+-- ---- something for each of the eight numbers
+
+-- what `from_fn` makes of a closure that no call changes
+module _ {F A : Type 0} (g : Mut F (ℕ × Unit {0}) A) (f : F) (h : ℕ → A) (told : (i : ℕ) (x : A) (q : F) → Called g f (i, tt) x q → (q ≡ f) × (x ≡ h i)) (xs : List A) (d : A) where
+  made_from : (n i : ℕ) → IsFromFnResultFrom g f xs i n → (j : ℕ) → i ≤ j → j < i + n → get_or xs j d ≡ h j
+  made_from zero i r j l m = absurd (omega arith)
+  made_from (suc n) i (q, x, e, k, rest) j l m =
+      let (same, here) = told i x q k in
+      elim (ℕ_discrete j i) [
+        | yes z ↦ ap (λ (t : ℕ). get_or xs t d) z ∙ e.1 d ∙ here ∙ ap h (sym z)
+        | no z ↦ made_from n (i + 1) (subst (λ p. IsFromFnResultFrom g p xs (i + 1) n) same rest) j (omega arith) (omega arith)
+      ]
+
+  pub made_eight : IsFromFnResult g f xs most_gateways → xs ≡ map h gateways
+  made_eight r = ext_get_or d xs (map h gateways) r.long (λ i l. made_from most_gateways 0 r.each i (omega arith) (omega (arith, r.long)) ∙ sym (for_each h d i (omega (arith, r.long))))
 
 -- ---- a good head
 
@@ -52,40 +70,49 @@ good_bits (n ∷ set ∷ more) h = Shapes.and_r (leb 1 n && leb n most_gateways)
 
 -- ---- what it opens
 
-abbrev refusal : Opened
-refusal = record { answer = Answer.Setup; hall = no_hall }
+-- the hall of a good head
+abbrev pub Opens : List ℕ → Option Hall → Type 0
+Opens bytes o = o ≡ pick (good_head bytes) (Some (fresh_hall bytes)) None
 
 module _ (bytes : List ℕ) where
-  opened-not : good_head bytes ≡ false → refusal ≡ opened bytes
-  unfolding opened
-  opened-not f = λ i. record { answer = sym (pick_no (good_head bytes) Answer.Taken Answer.Setup f) i; hall = sym (pick_no (good_head bytes) (fresh_hall bytes) no_hall f) i }
-
-  opened-good : good_head bytes ≡ true → ◌≡◌ {A = Opened} (record { answer = Answer.Taken; hall = fresh_hall bytes }) (opened bytes)
-  unfolding opened
-  opened-good t = λ i. record { answer = sym (pick_yes (good_head bytes) Answer.Taken Answer.Setup t) i; hall = sym (pick_yes (good_head bytes) (fresh_hall bytes) no_hall t) i }
+  refuses : good_head bytes ≡ false → Opens bytes None
+  refuses f = sym (pick_no (good_head bytes) _ None f)
 
   -- "cut short"
-  pub opened-cut : length bytes < 2 → refusal ≡ opened bytes
-  opened-cut l = opened-not (head_cut bytes l)
+  pub opens-cut : length bytes < 2 → Opens bytes None
+  opens-cut l = refuses (head_cut bytes l)
 
   -- "with another n"
-  pub opened_none : nodes_of bytes < 1 → refusal ≡ opened bytes
-  opened_none few = opened-not (fails (good_head bytes) (λ e. absurd (omega (arith, (good_head_lem bytes e).some))))
+  pub opens_none : nodes_of bytes < 1 → Opens bytes None
+  opens_none few = refuses (fails (good_head bytes) (λ e. absurd (omega (arith, (good_head_lem bytes e).some))))
 
-  pub opened-many : most_gateways < nodes_of bytes → refusal ≡ opened bytes
-  opened-many many = opened-not (fails (good_head bytes) (λ e. absurd (omega (arith, (good_head_lem bytes e).most))))
+  pub opens-many : most_gateways < nodes_of bytes → Opens bytes None
+  opens-many many = refuses (fails (good_head bytes) (λ e. absurd (omega (arith, (good_head_lem bytes e).most))))
 
   -- "with a bit at or above n"
-  pub opened_bits : bits_test bytes ≡ false → refusal ≡ opened bytes
-  opened_bits f = opened-not (fails (good_head bytes) (λ e. not_both (good_bits bytes e) f))
+  pub opens_bits : bits_test bytes ≡ false → Opens bytes None
+  opens_bits f = refuses (fails (good_head bytes) (λ e. not_both (good_bits bytes e) f))
 
   -- a good one
-  pub opened-fresh : 2 ≤ length bytes → 1 ≤ nodes_of bytes → nodes_of bytes ≤ most_gateways → bits_test bytes ≡ true
-      → ◌≡◌ {A = Opened} (record { answer = Answer.Taken; hall = fresh_hall bytes }) (opened bytes)
-  opened-fresh l some most bits =
+  pub opens-fresh : 2 ≤ length bytes → 1 ≤ nodes_of bytes → nodes_of bytes ≤ most_gateways → bits_test bytes ≡ true → Opens bytes (Some (fresh_hall bytes))
+  opens-fresh l some most bits =
       let a = le-leb 1 (nodes_of bytes) some in
       let b = le-leb (nodes_of bytes) most_gateways most in
-      opened-good (head_tests bytes l ∙ search Shapes.and_both)
+      let good : good_head bytes ≡ true = head_tests bytes l ∙ search Shapes.and_both in
+      sym (pick_yes (good_head bytes) (Some (fresh_hall bytes)) None good)
+
+  -- what is handed back of it: "15 .. and nothing is played"
+  pub opened_some : {h : Hall} → Opens bytes (Some h) → ◌≡◌ {A = Opened} (record { answer = Answer.Taken; hall = h }) (opened bytes)
+  unfolding opened
+  opened_some e =
+      let (y, q) = pick_some (good_head bytes) (fresh_hall bytes) e in
+      λ i. record { answer = sym (pick_yes (good_head bytes) Answer.Taken Answer.Setup y) i; hall = (q ∙ sym (pick_yes (good_head bytes) (fresh_hall bytes) no_hall y)) i }
+
+  pub opened_none : {h : Hall} → h ≡ no_hall → Opens bytes None → ◌≡◌ {A = Opened} (record { answer = Answer.Setup; hall = h }) (opened bytes)
+  unfolding opened
+  opened_none q e =
+      let n = pick_none (good_head bytes) (fresh_hall bytes) e in
+      λ i. record { answer = sym (pick_no (good_head bytes) Answer.Taken Answer.Setup n) i; hall = (q ∙ sym (pick_no (good_head bytes) (fresh_hall bytes) no_hall n)) i }
 
 -- ---- the hall that it opens
 
@@ -94,7 +121,7 @@ module _ (bytes : List ℕ) where
   bits_honest : low_test (fresh_hall bytes) ≡ bits_test bytes
   unfolding fresh_hall
   bits_honest =
-      below_alike most_gateways (λ i. ltb i (nodes_of bytes) || not (honest_in (fresh_hall bytes) i)) (λ i. ltb i (nodes_of bytes) || not (in_set bytes i))
+      all_below_same most_gateways (λ i. ltb i (nodes_of bytes) || not (honest_in (fresh_hall bytes) i)) (λ i. ltb i (nodes_of bytes) || not (in_set bytes i))
       (λ i l. ap (λ t. ltb i (nodes_of bytes) || not t) (fresh_honest bytes i l))
 
   -- n and the set as code reads them
@@ -123,12 +150,12 @@ pub played-shaped : (bytes : List ℕ) → good_head bytes ≡ true → (xs : Li
 unfolding fresh_hall
 played-shaped bytes good xs =
     let w = good_head_lem bytes good in
-    kept-shaped
-    (kept-played
-    (hall-kept (fresh_hall bytes) refl refl
-    (λ i l. ap (λ (s : State). length s.blocks) (fresh-gateway bytes i (omega (arith, w.most))) ∙ (start-sized (nodes_of bytes) i).blocks)
-    (opened-shaped bytes good))
-    xs)
+    (kept-played (fresh_hall bytes)
+    (record {
+      shaped = opened-shaped bytes good;
+      places = λ i l. ap (λ (s : State). length s.blocks) (fresh-gateway bytes i (omega (arith, w.most))) ∙ (start-sized (nodes_of bytes) i).blocks;
+    })
+    refl xs).shaped
 
 -- a refused head opens none that is well shaped
 pub no_hall_unshaped : hall_shaped no_hall ≡ false

@@ -1,17 +1,14 @@
 -- A hall's recording: the line of each record, and a piece from its start to its end. Assumes nothing.
-use Prim.Native.Nat.{ℕ, suc, ◌+◌, ◌-◌, ◌^◌, ◌≤◌, ◌<◌}
+use Prim.Native.Nat.{ℕ, suc, ◌+◌, ◌^◌, ◌≤◌, ◌<◌}
 use mathlib.Core.Bool.{Bool, true, false}
 use mathlib.Core.List.{List, [], ◌∷◌, ◌++◌}
-use mathlib.Core.Path.{◌≡◌, refl, sym, ap, ◌∙◌}
-use native.Mathlib.Numerals.{add-one}
+use mathlib.Core.Path.{◌≡◌, refl, ap, ◌∙◌}
 use native.Mathlib.Omega.{arith}
 use lib.Dec.{lit<}
-use lib.ListN.{length, get_or, take, drop}
-use lib.Seq.{drop-cons}
+use lib.ListN.{length}
 use Rattle.table.specs.declared.Answer.{Answer}
 use Rattle.table.specs.Scan.{pick}
 use Rattle.pala.specs.Answers.{number, taken}
-use Rattle.pala.proofs.Stretches.{part}
 use Rattle.lines.specs.Text.{Lined, worded_at}
 use Rattle.lines.proofs.Going.{Tale, Gone, Recorded}
 use Rattle.lines.proofs.Laws.{put_as}
@@ -24,7 +21,6 @@ use Rattle.accord.specs.Text.{sent_bytes, receiver_of, record_of, yes_word, no_w
 use Rattle.accord.specs.Words.{agree}
 use Rattle.accord.proofs.Played.{hall_next}
 use Rattle.hall.specs.Play.{HallPiece, hall_piece, hall_line_most}
-use Rattle.hall.proofs.Turned.{Turned}
 
 -- ---- the recording
 
@@ -73,21 +69,6 @@ hall_end g = λ i. record { answer = Answer.Taken; hall = g.state i; before = g.
 
 -- ---- one record
 
--- its receiver's byte, and its own bytes
-module _ (input : List ℕ) (from size : ℕ) (l : from < length input) (some : 0 < size) where
-  sent : part input from size ≡ get_or input from 0 ∷ take (from + size - (from + 1)) (drop (from + 1) input)
-  sent =
-      let more : from + size - from ≡ suc (from + size - (from + 1)) = omega arith in
-      ap (λ (n : ℕ). take n (drop from input)) more
-      ∙ ap (take (suc (from + size - (from + 1)))) (drop-cons input from 0 l)
-      ∙ ap (λ (n : ℕ). get_or input from 0 ∷ take (from + size - (from + 1)) (drop n input)) (sym (add-one from))
-
-  pub sent-to : receiver_of (part input from size) ≡ get_or input from 0
-  sent-to = ap receiver_of sent
-
-  pub sent_record : record_of (part input from size) ≡ take (from + size - (from + 1)) (drop (from + 1) input)
-  sent_record = ap record_of sent
-
 -- every verdict's number is below 23
 verdict-few : (v : Verdict) → verdict_number v < 23
 unfolding verdict_number
@@ -104,20 +85,20 @@ word_few false = omega arith
 
 -- the record is played, and its line put
 pub hall_recorded :
-    {h u : Hall} {x text later book lists counts : List ℕ} {to k told end past : ℕ} {r : List ℕ} {word : Bool} → receiver_of x ≡ to → record_of x ≡ r
-    → Turned h to r u book lists counts word → told ≡ verdict_number (verdict h to r) → end + hall_line_most ≤ length text → k < 2 ^ 64
+    {h u : Hall} {x text later : List ℕ} {k told end past : ℕ} {word : Bool} (to : ℕ) (r : List ℕ) (v : Verdict) → to ≡ receiver_of x → r ≡ record_of x
+    → v ≡ verdict h to r → told ≡ verdict_number v → u ≡ hall_after h to r → word ≡ agree u → end + hall_line_most ≤ length text → k < 2 ^ 64
     → ◌≡◌ {A = Lined} (record { length = past; text = later }) (worded_at k told (pick word yes_word no_word) end text)
     → Recorded hall_tale h k x text end u past later
 unfolding hall_line
-hall_recorded {h} {u} {x} {text} {to = to} {k = k} {told = told} {end = end} {r = r} {word = word} e f t says room low l =
+hall_recorded {h} {u} {x} {text} {k = k} {told = told} {end = end} {word = word} to r v e f says numbered after named room low l =
     let s : Spacious text end k told (pick word yes_word no_word) =
-    record { room = omega (arith, word_few word); first = low; second = omega (arith, says, verdict-few (verdict h to r)) } in
+    record { room = omega (arith, word_few word); first = low; second = omega (arith, numbered, verdict-few v) } in
     let put = worded-is s l in
-    let state : u ≡ hall_next h x = t.hall ∙ sym (λ i. hall_after h (e i) (f i)) in
-    let answer : told ≡ verdict_number (verdict h (receiver_of x) (record_of x)) = says ∙ sym (λ i. verdict_number (verdict h (e i) (f i))) in
-    let yes : word ≡ agree (hall_next h x) = t.live.says ∙ ap agree state in
+    let state : u ≡ hall_next h x = after ∙ (λ i. hall_after h (e i) (f i)) in
+    let answer : told ≡ verdict_number (verdict h (receiver_of x) (record_of x)) = numbered ∙ ap verdict_number says ∙ (λ i. verdict_number (verdict h (e i) (f i))) in
+    let word_is : word ≡ agree (hall_next h x) = named ∙ ap agree state in
     record {
       state = state;
-      line = put_as (λ i. worded k (answer i) (pick (yes i) yes_word no_word)) put;
+      line = put_as (λ i. worded k (answer i) (pick (word_is i) yes_word no_word)) put;
       short = omega (arith, put.ends, worded-most s, word_few word);
     }

@@ -1,6 +1,4 @@
--- What the promises of this crate cite besides `accord` and `pala`: the lent bytes that stand beside the states, and a piece played.
-pub mod Kept
-pub mod Book
-pub mod Lists
+-- What the promises of this crate cite besides `accord` and `pala`: a block found by its name, what is decided of a record, a piece played.
+pub mod Named
 pub mod Judged
 pub mod Play

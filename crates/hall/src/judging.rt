@@ -1,18 +1,24 @@
 // "20 to 22 before 01's, lowest first, the last two on whole records only."
 
-ghost use Rattle.std.specs.Prelude.{◌<◌, ◌≡◌, ◌&&◌, not, false, get_or, length};
-ghost use Rattle.hall.specs.Book.{book_bytes, shown_in};
-ghost use Rattle.hall.specs.Judged.{clashed_in, judged, judged_own};
+ghost use Rattle.std.specs.Prelude.{ℕ, ◌≡◌, ◌&&◌, ◌||◌, true, false, List, MatchOption};
+ghost use Rattle.table.specs.Rows.{rows};
+ghost use Rattle.pala.specs.Record.{is, proposal_heard, propose_now};
+ghost use Rattle.record.specs.Fields.{fields_of};
+ghost use Rattle.hall.specs.Judged.{Decided, judged};
+ghost use Rattle.hall.specs.Named.{block_named};
+ghost use Rattle.accord.specs.Head.{honest_in};
+ghost use Rattle.accord.specs.Rulings.{clash, content_at, content_of, forged, otherwise, shows, table_of, verdict, verdict_number};
 
-use crate::book::{clashes, shown};
-use crate::seats::honest_at;
-use node::Decision;
-use node::answers::number_of;
-use record::kinds::{PROPOSAL_HEARD, VOTE_HEARD};
-use record::{Fields, RECORD_BYTES, write};
+use crate::seats::ShapedHall;
+use accord::{GATEWAYS, Verdict};
+use node::{Decision, answers};
+use record::Fields;
+use record::kinds::Kind;
 use rules::steps::freshest;
-use table::rows::at;
-use table::{Epoch, NodeNo, State};
+use shape::shaped::Shaped;
+use table::rows::{at, find, lower};
+use table::voters::has_voter;
+use table::{Answer, Epoch, NAME_BYTES, NodeNo, PAYLOAD_BYTES, Place, State};
 
 // "20 receiver not an honest node"
 const RECEIVER: u32 = 20;
@@ -21,79 +27,135 @@ const FORGED: u32 = 21;
 // "22 kind 1 or 4 whose name stands in some honest node's table with another epoch, parent or payload"
 const CLASH: u32 = 22;
 
-// Is a vote under an honest number whose own table doesn't show it.
-fn forged(book: &[u8], honest: [bool; 8], who: u32, name: [u8; 32]) -> bool
-    requires { length book.now ≡ book_bytes }
-    ensures { result ≡ (get_or honest who false && not (shown_in book.now who name)) }
+// Where a block of that name stands; the genesis is none of the table's blocks.
+fn block_named(s: &State, name: &[u8; NAME_BYTES]) -> Option<Place>
+    ensures { result ≡ block_named (rows s.now) name.now }
 {
-    if !honest_at(honest, who) {
+    find(s, name).filter(|p| p.0 > 0)
+}
+
+// Does a node's table show its vote for that name.
+fn shows(s: &Shaped<'_>, who: NodeNo, name: &[u8; NAME_BYTES]) -> bool
+    ensures { result ≡ shows (rows s.now) who.0 name.now }
+{
+    block_named(s.state, name).is_some_and(|p| has_voter(at(s.state, p), who))
+}
+
+// What a name stands for.
+#[derive(Clone, Copy, PartialEq, Eq)]
+struct Content<'a> {
+    epoch: Epoch,
+    parent: &'a [u8; NAME_BYTES],
+    payload: &'a [u8; PAYLOAD_BYTES],
+}
+
+// Of the block at a place.
+fn content_at(s: &State, p: Place) -> Content<'_>
+    ensures { record { epoch = result.epoch.0; parent = result.parent.now; payload = result.payload.now } ≡ content_at (rows s.now) p.0 }
+{
+    let b = at(s, p);
+    Content {
+        epoch: b.epoch,
+        parent: &at(s, lower(b.parent, p)).name,
+        payload: &b.payload,
+    }
+}
+
+// Does the name stand in a table for something else.
+fn otherwise(s: &Shaped<'_>, name: &[u8; NAME_BYTES], c: &Content<'_>) -> bool
+    ensures { result ≡ otherwise (rows s.now) name.now (record { epoch = c.now.epoch.0; parent = c.now.parent.now; payload = c.now.payload.now }) }
+{
+    let Some(p) = block_named(s.state, name) else {
         return false;
-    }
-    !shown(book, who as usize, name)
-}
-
-// Does the name of a proposal stand in some honest table for another block.
-fn clash(book: &[u8], f: Fields, epoch: Epoch, parent: [u8; 32]) -> bool
-    requires { length book.now ≡ book_bytes }
-    ensures { result ≡ clashed_in book.now f epoch.0 parent }
-{
-    let name = f.name;
-    let payload = f.payload;
-    let own = Fields {
-        name: name,
-        parent: parent,
-        payload: payload,
-        epoch: epoch,
-        sender: NodeNo(0),
-        kind: PROPOSAL_HEARD,
-        clean: true,
     };
-    let mut row = [0u8; RECORD_BYTES];
-    write(&mut row, own);
-    clashes(book, &row)
+    content_at(s.state, p) != *c
 }
 
-// The answer to a record as far as it asks nothing of its receiver's table: 20, 21, 22 for kind 1, else what was decided.
-pub fn judge(book: &[u8], honest: [bool; 8], to: u32, d: Decision) -> u32
-    requires { length book.now ≡ book_bytes }
-    ensures { result ≡ judged book.now honest to d }
+// What the name of a record of kind 1 or 4 stands for: its own fields, or the block that its receiver would add now.
+fn content_of<'a>(s: &'a Shaped<'_>, f: &'a Fields) -> Option<Content<'a>>
+    ensures { (r : List ℕ) → f.now ≡ fields_of r → MatchOption result ((is proposal_heard r || is propose_now r) ≡ false) (λ c. ((is proposal_heard r || is propose_now r) ≡ true) × (record { epoch = c.epoch.0; parent = c.parent.now; payload = c.payload.now } ≡ content_of s.now r)) }
 {
-    if !honest_at(honest, to) {
-        return RECEIVER;
+    // In two steps: with `Ok(Kind::ProposalHeard)` for a pattern the last arm tells a proof nothing of the kind (tried).
+    let Ok(kind) = Kind::try_from(f.kind) else {
+        return None;
+    };
+    match kind {
+        Kind::ProposalHeard => Some(Content {
+            epoch: f.epoch,
+            parent: &f.parent,
+            payload: &f.payload,
+        }),
+        Kind::ProposeNow => Some(Content {
+            epoch: s.state.local,
+            parent: &at(s.state, freshest(s.state).place).name,
+            payload: &f.payload,
+        }),
+        _ => None,
     }
-    let f = d.fields;
-    let kind = f.kind;
-    if kind == VOTE_HEARD {
-        let name = f.name;
-        if forged(book, honest, f.sender.0, name) {
-            return FORGED;
-        }
-    }
-    if kind == PROPOSAL_HEARD {
-        let parent = f.parent;
-        if clash(book, f, f.epoch, parent) {
-            return CLASH;
-        }
-    }
-    let answer = d.answer;
-    number_of(answer)
 }
 
-// The answer to a record of kind 4, which would add a block of its receiver's local epoch on its freshest block.
-pub fn judge_own(book: &[u8], s: State, d: Decision, told: u32) -> u32
-    requires { length book.now ≡ book_bytes }
-    ensures { (result ≡ judged_own book.now s d.fields told) × (s.local.0 < 4294967296) }
+// "21 a vote heard under an honest number whose own table doesn't show that vote"
+fn forged(h: &ShapedHall<'_>, f: &Fields) -> bool
+    ensures { (r : List ℕ) → f.now ≡ fields_of r → result ≡ forged h.now r }
 {
-    if told == RECEIVER {
-        return told;
+    f.kind == Kind::VoteHeard as u32
+        && h.honest(f.sender.0 as usize)
+            .is_some_and(|s| !shows(&s, f.sender, &f.name))
+}
+
+// Is the number an honest one, in whose table the name stands for something else. A function and no closure: one that captures the content tells
+// a proof nothing of it (tried).
+fn honest_otherwise(
+    h: &ShapedHall<'_>,
+    who: usize,
+    name: &[u8; NAME_BYTES],
+    c: &Content<'_>,
+) -> bool
+    ensures { result ≡ (honest_in h.now who && otherwise (table_of h.now who) name.now (record { epoch = c.now.epoch.0; parent = c.now.parent.now; payload = c.now.payload.now })) }
+{
+    let Some(t) = h.honest(who) else {
+        return false;
+    };
+    otherwise(&t, name, c)
+}
+
+// "22 kind 1 or 4 whose name stands in some honest node's table with another epoch, parent or payload"
+fn clash(h: &ShapedHall<'_>, s: &Shaped<'_>, f: &Fields) -> bool
+    ensures { (r : List ℕ) → f.now ≡ fields_of r → result ≡ clash h.now s.now r }
+{
+    let Some(c) = content_of(s, f) else {
+        return false;
+    };
+    (0..GATEWAYS).any(|i| honest_otherwise(h, i, &f.name, &c))
+}
+
+// What is told to an honest receiver, whose state is s and where d is decided: 21 and 22 before its own answer.
+pub fn judge(h: &ShapedHall<'_>, s: &Shaped<'_>, d: &Decision) -> Result<(), Verdict>
+    ensures { (to : ℕ) (r : List ℕ) → Decided h.now to r s.now d.now → result ≡ judged (verdict h.now to r) }
+{
+    if let Some(f) = &d.fields {
+        if forged(h, f) {
+            return Err(Verdict::Forged);
+        }
+        if clash(h, s, f) {
+            return Err(Verdict::Clash);
+        }
     }
-    let top = freshest(s);
-    let place = top.place;
-    let b = at(s, place);
-    let parent = b.name;
-    let f = d.fields;
-    if clash(book, f, s.local, parent) {
-        return CLASH;
+    match d.verdict {
+        Ok(_) => Ok(()),
+        Err(answer) => Err(Verdict::Answered(answer)),
     }
-    told
+}
+
+// The number of each verdict.
+#[tactic(auto, unfolding(accord::specs::Rulings::verdict_number))]
+pub fn number_of(verdict: Verdict) -> u32
+    ensures { result ≡ verdict_number verdict }
+{
+    match verdict {
+        Verdict::Receiver => RECEIVER,
+        Verdict::Forged => FORGED,
+        Verdict::Clash => CLASH,
+        Verdict::Answered(answer) => answers::number_of(answer),
+    }
 }

@@ -1,147 +1,95 @@
 // A hall's recording, piece by piece: each piece is played from the hall and the record number that the last one left.
 
-ghost use Rattle.std.specs.Prelude.{◌+◌, ◌/◌, ◌<◌, min, ◌≡◌, length, replicate};
+ghost use Rattle.std.specs.Prelude.{◌≡◌, true};
 ghost use Rattle.table.specs.Scan.{pick};
+ghost use Rattle.pala.specs.Answers.{answered};
 ghost use Rattle.lines.specs.Text.{Lined, worded_at};
+ghost use Rattle.accord.specs.Head.{hall_shaped};
+ghost use Rattle.accord.specs.Rulings.{hall_after, verdict};
 ghost use Rattle.accord.specs.Text.{no_word, yes_word};
-ghost use Rattle.hall.specs.Book.{book_bytes};
-ghost use Rattle.hall.specs.Lists.{lists_bytes};
+ghost use Rattle.accord.specs.Words.{agree};
 ghost use Rattle.hall.specs.Play.{HallPiece, HallReady, hall_piece, play_hall};
 
-use crate::beside::{move_on, set_out};
-use crate::judging::{judge, judge_own};
-use crate::seats::{hall_shaped, seat};
-use accord::Hall;
+use crate::chains::agree;
+use crate::judging::{judge, number_of};
+use crate::seats::{ShapedHall, hall_shaped};
+use accord::{Hall, Verdict};
 use lines::words::put_worded;
 use node::{decide_shaped, take_shaped};
 use record::RECORD_BYTES;
-use record::kinds::PROPOSE_NOW;
 use table::Answer;
 
 // "one byte before each record names the receiver"
 const SENT_BYTES: usize = 1 + RECORD_BYTES;
-// The room asked for each line, and the last number of a record that can be printed.
+// The room asked for each line.
 const LINE_MOST: usize = 46;
 
-const LAST_NUMBER: u64 = 18446744073709551615;
-// The bytes beside the states: a row for each place of each gateway, and a final list for each.
-const BOOK_BYTES: usize = 49152;
-
-const LISTS_BYTES: usize = 16384;
-
-// What a piece hands back: the answer, the hall and the record number after it, and the length of its text.
-#[derive(Clone, Copy)]
-pub struct Told {
-    pub answer: Answer,
-    pub hall: Hall,
-    pub before: u64,
-    pub length: usize,
-}
-
-// The same from its parts; a refusal hands back the hall as it came, and no text.
-fn handed(answer: Answer, hall: Hall, before: u64, length: usize) -> Told
-    ensures { result ≡ record { answer = answer; hall = hall; before = before; length = «length» } }
+// One record to its receiver, whose state moves on where it is taken; `word` says yes or no of the hall, before it and after.
+fn play_record(h: &mut Hall, word: &mut bool, to: usize, rec: &[u8]) -> Verdict
+    requires { (hall_shaped h.old ≡ true) × (word.old ≡ agree h.old) }
+    ensures told { result ≡ verdict h.old to rec.now }
+    ensures after { h.new ≡ hall_after h.old to rec.now }
+    ensures shaped { hall_shaped h.new ≡ true }
+    ensures says { word.new ≡ agree h.new }
 {
-    Told {
-        answer: answer,
-        hall: hall,
-        before: before,
-        length: length,
+    let hall = ShapedHall { hall: h };
+    let Some(s) = hall.honest(to) else {
+        return Verdict::Receiver;
+    };
+    let d = decide_shaped(&s, rec);
+    if let Err(refusal) = judge(&hall, &s, &d) {
+        return refusal;
     }
-}
-
-// A receiver and its record, the last as long as what is left.
-fn stretch(left: usize) -> usize
-    ensures { result ≡ min left 97 }
-{
-    if left < SENT_BYTES { left } else { SENT_BYTES }
-}
-
-// How many of them so many bytes are.
-fn stretch_count(length: usize) -> usize
-    ensures { result ≡ («length» + 96) / 97 }
-{
-    let whole = length / SENT_BYTES;
-    if length % SENT_BYTES == 0 {
-        whole
-    } else {
-        whole + 1
+    let own = &mut h.states[to];
+    let kept = own.kept;
+    take_shaped(own, &d);
+    // No list has changed unless another final block is kept.
+    if own.kept != kept {
+        *word = agree(&ShapedHall { hall: h });
     }
-}
-
-// A byte among the numbers of 32 bits.
-fn wide(b: u8) -> u32
-    ensures { (result ≡ b) × (result < 256) }
-{
-    b as u32
+    Verdict::Answered(Answer::Taken)
 }
 
 // "After each record the program prints its number, the answer and yes or no"
 fn put_said(text: &mut [u8], at: usize, k: u64, told: u32, word: bool) -> usize
     ensures { ◌≡◌ {A = Lined} (record { length = result; text = text.new }) (worded_at k told (pick word yes_word no_word) at text.old) }
 {
-    if word {
-        return put_worded(text, at, k, told as u64, b"yes");
-    }
-    put_worded(text, at, k, told as u64, b"no")
+    let said: &[u8] = if word { b"yes" } else { b"no" };
+    put_worded(text, at, k, u64::from(told), said)
 }
 
-// The loop over a piece's records: each is decided first, and only a taken one makes a new state.
-fn play_records(
-    h: Hall,
-    before: u64,
-    input: &[u8],
-    text: &mut [u8],
-    book: &mut [u8],
-    lists: &mut [u8],
-) -> Told
-    requires { HallReady h before input.now text.old × (book.old ≡ replicate book_bytes 0) × (length lists.old ≡ lists_bytes) }
-    ensures { ◌≡◌ {A = HallPiece} (record { answer = result.answer; hall = result.hall; before = result.before; length = result.length; text = text.new }) (hall_piece Answer.Taken h before input.now text.old) }
+// The loop over a piece's records, each of which gets its line.
+fn play_records(h: &mut Hall, before: &mut u64, input: &[u8], text: &mut [u8]) -> usize
+    requires { HallReady h.old before.old input.now text.old }
+    ensures { ◌≡◌ {A = HallPiece} (record { answer = Answer.Taken; hall = h.new; before = before.new; length = result; text = text.new }) (hall_piece Answer.Taken h.old before.old input.now text.old) }
 {
-    let mut beside = set_out(h, book, lists);
-    let honest = h.honest;
-    let n = h.n;
-    let mut hall = h;
-    let mut k = before;
-    let mut from: usize = 0;
-    let mut end: usize = 0;
-    while from < input.len() {
-        let size = stretch(input.len() - from);
-        k += 1;
-        let to = wide(input[from]);
-        let i = seat(to, n);
-        let d = decide_shaped(hall.states[i], &input[from + 1..from + size]);
-        let mut told = judge(book, honest, to, d);
-        if d.fields.kind == PROPOSE_NOW {
-            told = judge_own(book, hall.states[i], d, told);
-        }
-        if told == 0 {
-            let kept = hall.states[i].kept.0;
-            let t = take_shaped(hall.states[i], d);
-            beside = move_on(book, lists, beside, honest, i, t, d, kept);
-            hall.states[i] = t;
-        }
-        end = put_said(text, end, k, told, beside.word);
-        from += size;
+    let mut word = agree(&ShapedHall { hall: h });
+    let mut end = 0;
+    for sent in input.chunks(SENT_BYTES) {
+        *before += 1;
+        let told = play_record(h, &mut word, usize::from(sent[0]), &sent[1..]);
+        end = put_said(text, end, *before, number_of(told), word);
     }
-    handed(Answer::Taken, hall, k, end)
+    end
 }
 
 // A piece of a recording played on a hall, of which `before` records came earlier; every hall, input and buffer is answered.
-pub fn play(h: Hall, before: u64, input: &[u8], text: &mut [u8]) -> Told
-    ensures { ◌≡◌ {A = HallPiece} (record { answer = result.answer; hall = result.hall; before = result.before; length = result.length; text = text.new }) (play_hall h before input.now text.old) }
+// The refusals are those of `lines::pieces::play`, of another shape, stretch and line, each by its own definition.
+pub fn play(h: &mut Hall, before: &mut u64, input: &[u8], text: &mut [u8]) -> Result<usize, Answer>
+    ensures answer { result ≡ answered (play_hall h.old before.old input.now text.old).answer (play_hall h.old before.old input.now text.old).length }
+    ensures hall { h.new ≡ (play_hall h.old before.old input.now text.old).hall }
+    ensures number { before.new ≡ (play_hall h.old before.old input.now text.old).before }
+    ensures text { text.new ≡ (play_hall h.old before.old input.now text.old).text }
 {
     if !hall_shaped(h) {
-        return handed(Answer::State, h, before, 0);
+        return Err(Answer::State);
     }
-    let count = stretch_count(input.len());
+    let count = input.len().div_ceil(SENT_BYTES);
     if text.len() / LINE_MOST < count {
-        return handed(Answer::Length, h, before, 0);
+        return Err(Answer::Length);
     }
-    if LAST_NUMBER - (count as u64) < before {
-        return handed(Answer::Full, h, before, 0);
+    if u64::MAX - (count as u64) < *before {
+        return Err(Answer::Full);
     }
-    let mut book = [0u8; BOOK_BYTES];
-    let mut lists = [0u8; LISTS_BYTES];
-    play_records(h, before, input, text, &mut book, &mut lists)
+    Ok(play_records(h, before, input, text))
 }

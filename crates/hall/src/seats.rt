@@ -1,92 +1,79 @@
-// The gateways on the desk by their numbers.
+// The gateways on the desk by their numbers, and the shape of a hall.
 
-ghost use Rattle.std.specs.Prelude.{ℕ, ◌<◌, ◌≤◌, suc, ◌≡◌, ◌||◌, not, true, false, ltb, get_or, length};
-ghost use Rattle.table.specs.Rows.{capacity};
+ghost use Rattle.std.specs.Prelude.{◌<◌, ◌≤◌, ◌≡◌, ◌||◌, not, true, false, ltb, get_or, Some, None};
 ghost use Rattle.table.specs.Scan.{all_below, pick};
+ghost use Rattle.table.specs.Rows.{all_zero};
 ghost use Rattle.pala.specs.Shape.{well_shaped};
-ghost use Rattle.accord.specs.Head.{gateway, hall_shaped, most_gateways};
-ghost use Rattle.hall.specs.Kept.{Kept};
+ghost use Rattle.accord.specs.Head.{gateway, hall_shaped, honest_in, most_gateways};
 
-use crate::GATEWAYS;
-use accord::{Hall, MOST_GATEWAYS};
+use accord::{GATEWAYS, Hall};
+use shape::shaped::Shaped;
 use shape::well_shaped;
+use std::marker::Model;
 use table::State;
 
-// Is the node in the set; no number past eight is.
-pub fn honest_at(honest: [bool; 8], who: u32) -> bool
-    ensures { result ≡ get_or honest who false }
-{
-    let i = who as usize;
-    if GATEWAYS <= i {
-        return false;
-    }
-    honest[i]
+// A hall that is known to be well shaped, lent. A clause sees the hall itself.
+#[derive(Drop)]
+pub struct ShapedHall<'a> {
+    pub hall: &'a Hall,
 }
 
-// Where a number's gateway sits; one at or above n has no seat of its own.
-pub fn seat(who: u32, n: u32) -> usize
-    ensures { result ≡ pick (ltb who n) who 0 }
-{
-    if n <= who {
-        return 0;
-    }
-    who as usize
+impl<'a> Model for ShapedHall<'a> {
+    ghost use Rattle.std.specs.Prelude.{◌≡◌, true};
+    ghost use Rattle.accord.specs.declared.Hall.{Hall};
+    ghost use Rattle.accord.specs.Head.{hall_shaped};
+
+    ghost Value = { Hall };
+
+    ghost view = { λ h. h.hall.now };
+
+    ghost invariant = { λ h. hall_shaped h.hall.now ≡ true };
 }
 
-// Is no number at or above n honest.
-pub fn all_below(honest: [bool; 8], n: u32) -> bool
-    ensures { result ≡ all_below most_gateways (λ i. ltb i n || not (get_or honest i false)) }
-{
-    let mut i: u32 = 0;
-    while i < MOST_GATEWAYS {
-        if n <= i {
-            if honest[i as usize] {
-                return false;
-            }
+impl<'a> ShapedHall<'a> {
+    // The state of an honest node; no number past eight is one.
+    pub fn honest(&self, who: usize) -> Option<Shaped<'a>>
+        ensures told { result ≡ pick (honest_in self.now who) (Some (gateway self.now who)) None }
+        ensures within { honest_in self.now who ≡ true → who < most_gateways }
+    {
+        let h = self.hall;
+        if !in_set(&h.honest, who) {
+            return None;
         }
-        i += 1;
+        Some(Shaped {
+            state: &h.states[who],
+        })
     }
-    true
 }
 
-// Is a state well shaped; it always has its 65 rows.
-fn sound(s: State) -> bool
-    ensures { (result ≡ well_shaped s) × (length s.blocks ≡ suc capacity) }
+// Is the number in the set; none past eight is.
+fn in_set(honest: &[bool; GATEWAYS], who: usize) -> bool
+    ensures told { result ≡ get_or honest.now who false }
+    ensures within { result ≡ true → who < most_gateways }
 {
-    well_shaped(s)
+    honest.get(who).copied().unwrap_or(false)
 }
 
-// Is every gateway's state well shaped.
-fn all_sound(h: Hall) -> bool
-    requires { h.n ≤ most_gateways }
-    ensures { (result ≡ all_below h.n (λ i. well_shaped (gateway h i))) × (result ≡ true → (i : ℕ) → i < h.n → length (gateway h i).blocks ≡ suc capacity) }
+// Is no number from n on in the set.
+pub fn none_from(honest: &[bool; GATEWAYS], n: usize) -> bool
+    requires { n ≤ most_gateways }
+    ensures { result ≡ all_below most_gateways (λ i. ltb i n || not (get_or honest.now i false)) }
 {
-    let n = h.n as usize;
-    let mut i: usize = 0;
-    while i < n {
-        let s = h.states[i];
-        if !sound(s) {
-            return false;
-        }
-        i += 1;
-    }
-    true
+    honest[n..].iter().all(|honest| !honest)
+}
+
+// Is each of the first n states well shaped.
+fn all_shaped(states: &[State; GATEWAYS], n: usize) -> bool
+    requires { n ≤ most_gateways }
+    ensures { result ≡ all_below n (λ i. well_shaped (get_or states.now i all_zero)) }
+{
+    states[..n].iter().all(|s| well_shaped(s))
 }
 
 // "n (1 to 8)", no honest number at or above it, every gateway's state well shaped.
-pub fn hall_shaped(h: Hall) -> bool
-    ensures { (result ≡ hall_shaped h) × (result ≡ true → Kept h) }
+pub fn hall_shaped(h: &Hall) -> bool
+    ensures { result ≡ hall_shaped h.now }
 {
-    let n = h.n;
-    if n < 1 {
-        return false;
-    }
-    if MOST_GATEWAYS < n {
-        return false;
-    }
-    let honest = h.honest;
-    if !all_below(honest, n) {
-        return false;
-    }
-    all_sound(h)
+    let n = h.n as usize;
+    (1..=GATEWAYS).contains(&n) && none_from(&h.honest, n) && all_shaped(&h.states, n)
 }

@@ -3,6 +3,7 @@ use Prim.Native.Nat.{ℕ, ◌+◌, ◌*◌, ◌≤◌, ◌<◌}
 use mathlib.Core.Bool.{true, false, not}
 use mathlib.Core.List.{List}
 use mathlib.Core.Path.{◌≡◌, ap, ◌∙◌}
+use native.Mathlib.Omega.{arith}
 use borrow.Author.Tests.{lt-ltb, le-ltb}
 use lib.Dec.{ltb}
 use lib.ListN.{length}
@@ -11,10 +12,17 @@ use Rattle.table.specs.declared.State.{State}
 use Rattle.table.specs.Scan.{pick}
 use Rattle.table.proofs.Laws.{pick_yes, pick_no}
 use Rattle.pala.specs.Answers.{number, taken, lowest_of}
+use Rattle.pala.specs.Record.{record_bytes}
 use Rattle.pala.specs.Run.{stretches}
 use Rattle.pala.specs.Shape.{well_shaped}
+use Rattle.pala.proofs.Stretches.{stretches-count}
+use Rattle.std.specs.Int.{div_ceil}
 use Rattle.lines.specs.Play.{Piece, Ready, piece_answer, piece, play_piece, last_number}
 use Rattle.lines.specs.Text.{line_most}
+
+-- `div_ceil` counts the stretches
+pub stretches-number : (input : List ℕ) {count : ℕ} → count ≡ div_ceil (length input) record_bytes → count ≡ length (stretches input)
+stretches-number input e = omega (arith, e, stretches-count input)
 
 module _ (s : State) (before : ℕ) (input text : List ℕ) where
   -- a refusal hands everything back

@@ -1,22 +1,23 @@
 -- Text written piece by piece, and the digits of a number. Assumes nothing.
-use Prim.Native.Nat.{ℕ, zero, suc, ◌+◌, ◌/◌, ◌%◌, ◌^◌, ◌≤◌, ◌<◌}
+use Prim.Native.Nat.{ℕ, zero, suc, ◌+◌, ◌-◌, ◌/◌, ◌%◌, ◌^◌, ◌≤◌, ◌<◌}
 use mathlib.Core.Bool.{true, false}
 use mathlib.Core.List.{List, [], ◌∷◌, ◌++◌, append_assoc, append-nil}
 use mathlib.Core.Path.{◌≡◌, refl, sym, ap, ◌∙◌, subst}
 use native.Mathlib.Decide.{dec_lt}
 use native.Mathlib.Nat.{add-zero, zero-add}
+use borrow.Rule.Slice.PartMut.{put_mid}
 use native.Mathlib.Numerals.{add-one}
 use native.Mathlib.Omega.{arith}
 use borrow.Author.Tests.{lt-ltb, le-ltb}
 use lib.Dec.{ltb}
-use lib.ListN.{length, get_or, take, drop, set, length-append, length-take, length-drop, take-append-drop}
-use lib.Seq.{set_split, append_snoc, take_at, drop_at, drop-drop, length-take-le, take-suc}
+use lib.ListN.{length, take, drop, set, length-append, length-take, length-drop, take-append-drop}
+use lib.Seq.{set_split, append_snoc, take_at, drop_at, drop-drop}
 use Rattle.table.specs.declared.Answer.{Answer}
 use Rattle.table.specs.Scan.{pick}
 use Rattle.pala.specs.Answers.{number}
 use Rattle.table.proofs.Laws.{pick_yes, pick_no}
 use Rattle.pala.specs.Lines.{digits_in, digits, spaced, space, new_line, end_line, setup_line}
-use Rattle.lines.specs.Text.{written, Put, Room, line_most, end_most, Lined, lined}
+use Rattle.lines.specs.Text.{written, Put, line_most, end_most, Lined, lined}
 
 -- ---- written
 
@@ -25,10 +26,17 @@ pub written_byte : (text : List ℕ) (i b : ℕ) → i < length text → set tex
 unfolding written
 written_byte text i b h = set_split text i b h ∙ rw (add-one i) (sym (append_snoc (take i text) b (drop (suc i) text)))
 
--- nothing written changes nothing
-pub written_none : (text : List ℕ) → written text 0 [] ≡ text
+-- bytes copied over a part of the buffer are bytes written
+pub written_over :
+    (text : List ℕ) (at : ℕ) (bytes : List ℕ) {after : List ℕ} → after ≡ bytes
+    → put_mid at (at + length bytes - at) text after ≡ written text at bytes
 unfolding written
-written_none text = refl
+written_over text at bytes {after} e =
+    let size : at + (at + length bytes - at) ≡ at + length bytes = omega arith in
+    ap (λ (x : List ℕ). take at text ++ (x ++ drop (at + length bytes - at) (drop at text))) e
+    ∙ ap (λ (x : List ℕ). take at text ++ (bytes ++ x)) (drop-drop (at + length bytes - at) at text)
+    ∙ ap (λ (n : ℕ). take at text ++ (bytes ++ drop n text)) size
+    ∙ sym (append_assoc (take at text) bytes (drop (at + length bytes) text))
 
 -- what is written leaves the length
 pub length-written : (text : List ℕ) (from : ℕ) (a : List ℕ) → from + length a ≤ length text → length (written text from a) ≡ length text
@@ -133,13 +141,36 @@ pub put-length :
     → length after ≡ length text
 put-length {text} {after} {from} {past} {a} h p = ap length p.holds ∙ length-written text from a h
 
--- the same end, otherwise worded
-pub put_till : {text after : List ℕ} {from past end : ℕ} {a : List ℕ} → past ≡ end → Put text from a past after → Put text from a end after
-put_till e p = record { ends = sym e ∙ p.ends; holds = p.holds }
-
 -- the same bytes, otherwise worded
 pub put_as : {text after : List ℕ} {from past : ℕ} {a b : List ℕ} → a ≡ b → Put text from a past after → Put text from b past after
 put_as {text} {after} {from} {past} e p = subst (λ l. Put text from l past after) e p
+
+-- the digits of a number before its last one, put
+pub record Front (text : List ℕ) (from k past : ℕ) (after : List ℕ) : Type 0 where
+  pub front : List ℕ
+  pub put : Put text from front past after
+  pub all : digits k ≡ front ++ ((48 + k % 10) ∷ [])
+
+pub front_none : (text : List ℕ) (from k : ℕ) → from ≤ length text → k < 10 → Front text from k from text
+front_none text from k h l =
+    record {
+      front = [];
+      put = put_none text from h;
+      all = digits-one k l ∙ ap (λ (n : ℕ). (48 + n) ∷ []) (omega arith);
+    }
+
+pub front_more : {text after : List ℕ} {from past : ℕ} (k : ℕ) → 10 ≤ k → Put text from (digits (k / 10)) past after → Front text from k past after
+front_more k l p = record { front = digits (k / 10); put = p; all = digits_more k l }
+
+module _ {text x : List ℕ} {from k mid : ℕ} (room : from + length (digits k) ≤ length text) (f : Front text from k mid x) where
+  one_more : length (digits k) ≡ length f.front + 1
+  one_more = ap length f.all ∙ length-append f.front ((48 + k % 10) ∷ [])
+
+  pub last_fits : mid < length x
+  last_fits = omega (arith, room, one_more, f.put.ends, put-length (omega (arith, room, one_more)) f.put)
+
+  pub last_put : {y : List ℕ} {past : ℕ} → Put x mid ((48 + k % 10) ∷ []) past y → Put text from (digits k) past y
+  last_put p = put_as (sym f.all) (put_then (omega (arith, room, one_more)) f.put p)
 
 -- a number, the byte after it and the numbers after that are a line
 pub spaced_more : (x y : ℕ) (l : List ℕ) → (digits x ++ (space ∷ [])) ++ spaced (y ∷ l) ≡ spaced (x ∷ y ∷ l)
@@ -157,6 +188,10 @@ length-spaced x y l = omega (arith, length-append (digits x) (space ∷ spaced (
 pub length-spaced-last : (x : ℕ) → length (spaced (x ∷ [])) ≡ length (digits x) + 1
 unfolding spaced
 length-spaced-last x = length-append (digits x) (new_line ∷ [])
+
+-- a line of numbers fits into a buffer from an index on
+pub record Room (text : List ℕ) (from : ℕ) (numbers : List ℕ) : Type 0 where
+  pub fits : from + length (spaced numbers) ≤ length text
 
 -- where a line fits, its first number and the byte after it fit, and then the rest of the line
 pub room_first : {text : List ℕ} {from x : ℕ} {l : List ℕ} → Room text from (x ∷ l) → from + length (digits x) < length text
@@ -216,15 +251,7 @@ line-most k answer local bar names hk ha hl hb hn =
       digits-most 1 names (omega arith),
     )
 
--- ---- bytes one after the other
-
--- one more of some bytes put
-pub put_more :
-    {text x y : List ℕ} {from mid past : ℕ} (bytes : List ℕ) (k v : ℕ) → k < length bytes → from + length bytes ≤ length text
-    → Put text from (take k bytes) mid x → v ≡ get_or bytes k 0 → Put x mid (v ∷ []) past y → Put text from (take (k + 1) bytes) past y
-put_more {text} {x} {y} {from} bytes k v l h p e q =
-    let some : length (take k bytes) ≡ k = length-take-le k bytes (omega arith) in
-    put_as (ap (λ (n : ℕ). take k bytes ++ (n ∷ [])) e ∙ sym (rw (add-one k) (take-suc bytes k 0 l))) (put_then (omega arith) p q)
+-- ---- the first and the last line
 
 -- a line at the start of a buffer that has room for the longest, and one that has not
 pub lined_none : (line text : List ℕ) → length text < end_most → ◌≡◌ {A = Lined} (record { length = 0; text = text }) (lined line text)
@@ -237,15 +264,15 @@ lined_none line text h =
     λ i. record { length = first i; text = rest i }
 
 pub lined-put :
-    {text after : List ℕ} {past : ℕ} (line : List ℕ) → end_most ≤ length text → Put text 0 line past after
-    → ◌≡◌ {A = Lined} (record { length = past; text = after }) (lined line text)
+    {text after later : List ℕ} {past : ℕ} (line : List ℕ) → end_most ≤ length text → Put text 0 line past after → later ≡ after
+    → ◌≡◌ {A = Lined} (record { length = past; text = later }) (lined line text)
 unfolding lined
-lined-put {text} {after} {past} line h p =
+lined-put {text} {after} {later} {past} line h p same =
     let test : ltb (length text) end_most ≡ false = le-ltb (length text) end_most h in
     let first : past ≡ pick (ltb (length text) end_most) 0 (length line) =
     p.ends ∙ zero-add (length line) ∙ sym (pick_no (ltb (length text) end_most) 0 (length line) test) in
-    let rest : after ≡ pick (ltb (length text) end_most) text (written text 0 line) =
-    p.holds ∙ sym (pick_no (ltb (length text) end_most) text (written text 0 line) test) in
+    let rest : later ≡ pick (ltb (length text) end_most) text (written text 0 line) =
+    same ∙ p.holds ∙ sym (pick_no (ltb (length text) end_most) text (written text 0 line) test) in
     λ i. record { length = first i; text = rest i }
 
 -- "end" or "setup", a space and a number are such a line

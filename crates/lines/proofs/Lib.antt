@@ -3,7 +3,6 @@ pub mod Laws
 pub mod Worded
 pub mod Going
 pub mod Recording
-pub mod Turns
 pub mod Records
 pub mod Answered
 pub mod Determined

@@ -1,7 +1,7 @@
 -- A recording played on a node's state, and a piece of it from its start to its end. Assumes nothing.
 use Prim.Native.Nat.{ℕ, suc, ◌*◌, ◌≤◌}
 use mathlib.Core.List.{List, [], ◌∷◌, ◌++◌}
-use mathlib.Core.Path.{◌≡◌, refl}
+use mathlib.Core.Path.{◌≡◌, refl, ◌∙◌}
 use native.Mathlib.Omega.{arith}
 use lib.ListN.{length}
 use Rattle.table.specs.declared.Answer.{Answer}
@@ -54,12 +54,12 @@ recording =
     }
 
 module _ {s : State} {before : ℕ} {input text₀ : List ℕ} where
-  pub recording_start : line_most * length (stretches input) ≤ length text₀ → Going recording s before input text₀ s before 0 0 text₀
+  pub recording_start : line_most * length (stretches input) ≤ length text₀ → Going recording s before input text₀ s before input 0 text₀
   unfolding stretches
   recording_start room = going_start recording room
 
   pub recording_end :
-      {t : State} {k end : ℕ} {text : List ℕ} → Gone recording s before input text₀ t k end text
-      → ◌≡◌ {A = Piece} (record { answer = Answer.Taken; state = t; before = k; length = end; text = text }) (piece Answer.Taken s before input text₀)
+      {t : State} {k end : ℕ} {text later : List ℕ} → Gone recording s before input text₀ t k end text → later ≡ text
+      → ◌≡◌ {A = Piece} (record { answer = Answer.Taken; state = t; before = k; length = end; text = later }) (piece Answer.Taken s before input text₀)
   unfolding piece pick taken number stretches
-  recording_end g = λ i. record { answer = Answer.Taken; state = g.state i; before = g.number i; length = g.ends i; text = g.holds i }
+  recording_end g same = λ i. record { answer = Answer.Taken; state = g.state i; before = g.number i; length = g.ends i; text = (same ∙ g.holds) i }

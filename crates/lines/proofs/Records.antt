@@ -1,28 +1,27 @@
--- One record of a recording: the numbers of its line, and that it fits. Assumes nothing.
-use Prim.Native.Nat.{ℕ, ◌+◌, ◌^◌, ◌≤◌, ◌<◌}
-use mathlib.Core.Bool.{true}
+-- One record of a recording: its answer's number, and its line. Assumes nothing.
+use Prim.Native.Nat.{ℕ, ◌+◌, ◌≤◌, ◌<◌}
 use mathlib.Core.List.{List, [], ◌∷◌}
-use mathlib.Core.Path.{◌≡◌, sym, ap, ◌∙◌, subst}
-use native.Mathlib.Omega.{arith}
+use mathlib.Core.Bool.{Bool, true, false}
+use mathlib.Core.Path.{◌≡◌, refl, sym, ap, ◌∙◌}
+use Rattle.std.specs.Prelude.{Result, Ok, Err, unwrap_or}
+use Rattle.std.specs.Result.{result_err}
 use lib.Dec.{lit<}
 use lib.ListN.{length}
 use Rattle.table.specs.declared.Answer.{Answer}
 use Rattle.table.specs.declared.State.{State}
-use Rattle.table.specs.Rows.{rows}
-use Rattle.pala.specs.Answers.{number}
+use Rattle.table.specs.declared.Place.{Place}
+use Rattle.table.specs.Scan.{pick}
+use Rattle.pala.specs.Answers.{number, taken, answered}
 use Rattle.pala.specs.Lines.{spaced, line_of}
 use Rattle.pala.specs.Lists.{final_names}
 use Rattle.pala.specs.Run.{lent}
 use Rattle.pala.specs.Shape.{well_shaped}
 use Rattle.pala.specs.Step.{step}
-use Rattle.pala.proofs.Shapes.{shaped-kept, shaped-count}
-use Rattle.pala.proofs.Finals.{finals_are, names_le}
 use Rattle.node.specs.declared.Decision.{Decision}
 use Rattle.node.specs.Moves.{decision}
-use Rattle.node.proofs.Calls.{decided-answer}
-use Rattle.lines.specs.Text.{Put, Room, line_most}
-use Rattle.lines.proofs.Laws.{line-most, put_as}
-use Rattle.lines.proofs.Turns.{Turned}
+use Rattle.node.proofs.Calls.{taken_is, decided-verdict}
+use Rattle.lines.specs.Text.{Put, line_most}
+use Rattle.lines.proofs.Laws.{put_as}
 use Rattle.lines.proofs.Going.{Recorded}
 use Rattle.lines.proofs.Recording.{recording}
 
@@ -46,44 +45,30 @@ number-few Answer.Nothing = lit< tt
 number-few Answer.Full = lit< tt
 number-few Answer.Setup = lit< tt
 
--- a well-shaped state's final list has at most as many names as the table has blocks
-pub names_few : (t : State) → well_shaped t ≡ true → length (final_names t) < 100
-names_few t h =
-    let same : length (final_names t) ≤ t.kept.0 = subst (λ (l : List (List ℕ)). length l ≤ t.kept.0) (sym (finals_are t)) (names_le (rows t) t.kept.0) in
-    omega (arith, shaped-kept t h, shaped-count t h)
+-- the answer that a verdict is
+told_by : (a : Answer) (p : Place) → unwrap_or (result_err (answered a p)) Answer.Taken ≡ a
+unfolding answered pick
+told_by a p = go (taken a) refl
+  where
+    go : (b : Bool) → taken a ≡ b → unwrap_or (result_err (pick b (Ok p) (Err a))) Answer.Taken ≡ a
+    go true t = sym (taken_is a t)
+    go false t = refl
 
--- the numbers of a line: an answer's, a state's two epochs and its final list's length
-pub record Numbers (a : Answer) (t : State) (answer local bar names : ℕ) : Type 0 where
-  pub answers : answer ≡ number a
-  pub locals : (local ≡ t.local.0) × (local < 4294967296)
-  pub bars : (bar ≡ t.bar.0) × (bar < 4294967296)
-  pub lists : names ≡ length (final_names t)
+pub told_is :
+    (s : State) (r : List ℕ) {d : Decision} → well_shaped s ≡ true → d ≡ decision s r
+    → unwrap_or (result_err d.verdict) Answer.Taken ≡ (step s r lent).answer
+told_is s r shaped e =
+    ap (λ (v : Result Place Answer). unwrap_or (result_err v) Answer.Taken) (decided-verdict s r e shaped) ∙ told_by _ _
 
-module _ {a : Answer} {t : State} {answer local bar names : ℕ} (n : Numbers a t answer local bar names) where
-  -- they make no line longer than the longest
-  pub numbers_short : (k : ℕ) → k < 2 ^ 64 → well_shaped t ≡ true → length (spaced (k ∷ answer ∷ local ∷ bar ∷ names ∷ [])) ≤ line_most
-  numbers_short k h shaped =
-      line-most k answer local bar names h (omega (arith, number-few a, n.answers)) n.locals.1 n.bars.1
-      (omega (arith, names_few t shaped, n.lists))
-
-  -- .. and make the line of that answer and state
-  numbers_line : (k : ℕ) → spaced (k ∷ answer ∷ local ∷ bar ∷ names ∷ []) ≡ line_of k a t
-  unfolding line_of
-  numbers_line k = λ i. spaced (k ∷ n.answers i ∷ n.locals.0 i ∷ n.bars.0 i ∷ n.lists i ∷ [])
-
--- where the longest line fits, a record's line does
-pub room-line : (text : List ℕ) (end : ℕ) (l : List ℕ) → end + line_most ≤ length text → length (spaced l) ≤ line_most → Room text end l
-room-line text end l h short = record { fits = omega arith }
-
--- so the record is played and its line put
+-- a record played, and its line put
 pub recorded :
-    {s u : State} {r text after : List ℕ} {end past : ℕ} {d : Decision} {k answer local bar names some : ℕ} → well_shaped s ≡ true
-    → d ≡ decision s r → Turned s r u some → Numbers d.answer u answer local bar names → k < 2 ^ 64
-    → Put text end (spaced (k ∷ answer ∷ local ∷ bar ∷ names ∷ [])) past after → Recorded recording s k r text end u past after
-recorded {s} {u} {r} {d = d} {k = k} shaped e t n h p =
-    let told : d.answer ≡ (step s r lent).answer = ap (λ (x : Decision). x.answer) e ∙ decided-answer s r shaped in
+    {s u : State} {r text after : List ℕ} {end past : ℕ} {a : Answer} {k answer names : ℕ} → a ≡ (step s r lent).answer → answer ≡ number a
+    → u ≡ (step s r lent).state → names ≡ length (final_names u) → Put text end (spaced (k ∷ answer ∷ u.local.0 ∷ u.bar.0 ∷ names ∷ [])) past after
+    → past ≤ end + line_most → Recorded recording s k r text end u past after
+unfolding line_of
+recorded {s} {u} {r} {k = k} told f state counted p short =
     record {
-      state = t.state;
-      line = put_as (numbers_line n k ∙ (λ i. line_of k (told i) (t.state i))) p;
-      short = omega (arith, p.ends, numbers_short n k h t.after.playable.shaped);
+      state = state;
+      line = put_as ((λ i. spaced (k ∷ f i ∷ u.local.0 ∷ u.bar.0 ∷ counted i ∷ [])) ∙ (λ i. line_of k (told i) (state i))) p;
+      short = short;
     }

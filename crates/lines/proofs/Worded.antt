@@ -105,9 +105,9 @@ module _ {text : List ℕ} {from k answer : ℕ} {word : List ℕ} (h : Spacious
         end_fits = omega (arith, h.room, put-length (omega (arith, h.room, three_most)) three, three.ends, three_most)
 
         pub worded-put :
-            {past : ℕ} {after : List ℕ} → Put z c (new_line ∷ []) past after
-            → ◌≡◌ {A = Lined} (record { length = past; text = after }) (worded_at k answer word from text)
-        worded-put {past} {after} n =
+            {past : ℕ} {after later : List ℕ} → Put z c (new_line ∷ []) past after → later ≡ after
+            → ◌≡◌ {A = Lined} (record { length = past; text = later }) (worded_at k answer word from text)
+        worded-put {past} {after} n same =
             let all : Put text from (worded k answer word) past after =
             put_as (worded_parts k answer word) (put_then (omega (arith, h.room, three_most)) three n) in
-            (λ i. record { length = all.ends i; text = all.holds i }) ∙ sym (worded-room h)
+            (λ i. record { length = all.ends i; text = (same ∙ all.holds) i }) ∙ sym (worded-room h)

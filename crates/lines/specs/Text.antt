@@ -1,7 +1,6 @@
 -- Text in a lent buffer.
-use Rattle.std.specs.Prelude.{◌≡◌, ℕ, ◌+◌, ◌≤◌, List, ◌++◌, ltb, leb, length, take, drop}
+use Rattle.std.specs.Prelude.{◌≡◌, ℕ, ◌+◌, List, ◌++◌, ltb, leb, length, take, drop}
 use Rattle.table.specs.Scan.{pick}
-use Rattle.pala.specs.Lines.{spaced}
 use Rattle.accord.specs.Text.{worded}
 
 -- the buffer with some bytes written from an index on, the rest of it unchanged
@@ -12,10 +11,6 @@ written text from bytes = take from text ++ bytes ++ drop (from + length bytes) 
 pub record Put (text : List ℕ) (from : ℕ) (bytes : List ℕ) (past : ℕ) (after : List ℕ) : Type 0 where
   pub ends : past ≡ from + length bytes
   pub holds : after ≡ written text from bytes
-
--- a line of numbers fits into a buffer from an index on
-pub record Room (text : List ℕ) (from : ℕ) (numbers : List ℕ) : Type 0 where
-  pub fits : from + length (spaced numbers) ≤ length text
 
 -- the longest line: 20 digits of a record number, 2 of an answer, 10 of each epoch, 2 of a count of names, 5 bytes between and after them
 abbrev pub line_most : ℕ

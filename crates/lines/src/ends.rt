@@ -1,37 +1,40 @@
 // The only line of a refused recording, and the last line of any other.
 
-ghost use Rattle.std.specs.Prelude.{◌≡◌};
-ghost use Rattle.pala.specs.Lines.{end_line, setup_line};
+ghost use Rattle.std.specs.Prelude.{◌≡◌, ◌≤◌, [], ◌∷◌, ◌++◌, length};
+ghost use Rattle.pala.specs.Lines.{digits, end_line, new_line, setup_line};
 ghost use Rattle.lines.specs.Text.{Lined, lined};
 
-use crate::text::{put_bytes, put_number};
+use crate::text::{Line, NEW_LINE};
 use node::answers::number_of;
 use table::Answer;
 
 // 6 letters, 20 digits and a new line at most.
 const ROOM: usize = 27;
 
-const NEW_LINE: u8 = b'\n';
+// A word and a number, at the start of a buffer that has room; else nothing: length 0 and no Option, as the clauses' `lined` says.
+fn put_last(word: &[u8], number: u64, text: &mut [u8]) -> usize
+    requires { length word.now ≤ 6 }
+    ensures { ◌≡◌ {A = Lined} (record { length = result; text = text.new }) (lined (word.now ++ (digits number ++ (new_line ∷ []))) text.old) }
+{
+    if text.len() < ROOM {
+        return 0;
+    }
+    let mut line = Line { text, at: 0 };
+    line.put_bytes(word);
+    line.put_number(number, NEW_LINE);
+    line.at
+}
 
 // "Last, `end` and the number of lines.", at the start of a buffer that has room; else nothing.
 pub fn put_end(count: u64, text: &mut [u8]) -> usize
     ensures { ◌≡◌ {A = Lined} (record { length = result; text = text.new }) (lined (end_line count) text.old) }
 {
-    if text.len() < ROOM {
-        return 0;
-    }
-    let next = put_bytes(text, 0, b"end ");
-    put_number(text, next, count, NEW_LINE)
+    put_last(b"end ", count, text)
 }
 
 // "only `setup 15`", at the start of a buffer that has room; else nothing.
 pub fn put_setup(text: &mut [u8]) -> usize
     ensures { ◌≡◌ {A = Lined} (record { length = result; text = text.new }) (lined setup_line text.old) }
 {
-    if text.len() < ROOM {
-        return 0;
-    }
-    let next = put_bytes(text, 0, b"setup ");
-    let number = number_of(Answer::Setup) as u64;
-    put_number(text, next, number, NEW_LINE)
+    put_last(b"setup ", u64::from(number_of(Answer::Setup)), text)
 }

@@ -3,32 +3,24 @@
 ghost use Rattle.std.specs.Prelude.{◌≡◌, length};
 ghost use Rattle.lines.specs.Text.{Lined, worded_at};
 
-use crate::text::{put_byte, put_bytes, put_number};
+use crate::text::{Line, NEW_LINE, SPACE};
 
 // Two numbers of 20 digits, two spaces and a new line at most.
 const NUMBERS_MOST: usize = 43;
 
-const SPACE: u8 = b' ';
-
-const NEW_LINE: u8 = b'\n';
-
+// Buffer and index stand apart, and an index that stays says that nothing is written: the contract, `worded_at`, names both.
 // The line from an index on, in a buffer that has room there for any two numbers and the word; else nothing. The index past it.
 pub fn put_worded(text: &mut [u8], at: usize, k: u64, answer: u64, word: &[u8]) -> usize
     ensures { ◌≡◌ {A = Lined} (record { length = result; text = text.new }) (worded_at k answer word.now at text.old) }
 {
-    let long = text.len();
-    if long < at {
+    let left = text.len().saturating_sub(at);
+    if left < NUMBERS_MOST || left - NUMBERS_MOST < word.len() {
         return at;
     }
-    let left = long - at;
-    if left < NUMBERS_MOST {
-        return at;
-    }
-    if left - NUMBERS_MOST < word.len() {
-        return at;
-    }
-    let a = put_number(text, at, k, SPACE);
-    let b = put_number(text, a, answer, SPACE);
-    let c = put_bytes(text, b, word);
-    put_byte(text, c, NEW_LINE)
+    let mut line = Line { text, at };
+    line.put_number(k, SPACE);
+    line.put_number(answer, SPACE);
+    line.put_bytes(word);
+    line.put_byte(NEW_LINE);
+    line.at
 }

@@ -1,6 +1,8 @@
 -- Two final lists side by side: how many names agree, the relation, the tail. Assumes nothing.
+use Rattle.std.proofs.lemmas.Bool.{true_from_ne_false}
+use Rattle.std.proofs.Common.{MatchOption, Option, Some, None, nat_eq}
 use Prim.Native.Nat.{ℕ, zero, suc, ◌+◌, ◌-◌, ◌*◌, ◌/◌, ◌%◌, ◌≤◌, ◌<◌, min, zero-le}
-use mathlib.Core.Bool.{Bool, true, false, not, ◌&&◌, and-eq-true_iff}
+use mathlib.Core.Bool.{true, false, not, ◌&&◌, and-eq-true_iff}
 use mathlib.Core.List.{List, [], ◌++◌, append-nil}
 use mathlib.Core.Logic.{◌⊎◌, inl, inr}
 use mathlib.Core.Path.{◌≡◌, refl, sym, ap, subst, ◌∙◌}
@@ -8,42 +10,22 @@ use native.Mathlib.Decide.{dec_lt}
 use native.Mathlib.Omega.{arith}
 use borrow.Author.Tests.{ltb-true, ltb-false, lt-ltb, le-ltb, eq-eqb, ne_eqb, eqb-true, eqb-false, not-false}
 use lib.Dec.{eqb, ltb}
-use lib.ListN.{length, get_or, take, drop, length-drop, take-append-drop}
-use lib.Seq.{get_or-take, get_or-drop, take-add, take_all, take-length, take-append-le, drop-append-le, length-take-le}
+use lib.Pointwise.{pointwise}
+use lib.ListN.{length, take, drop, length-drop, take-append-drop}
+use lib.Seq.{take-add, take_all, take-length, take-append-le, drop-append-le}
 use Rattle.table.specs.Scan.{pick}
 use Rattle.table.specs.Bytes.{same}
 use Rattle.table.specs.Rows.{name_bytes}
 use Rattle.table.specs.declared.Relation.{Relation}
-use Rattle.table.proofs.Laws.{pick_yes, pick_no, pick-case, not_both, lowest-is, lowest_none, lowest-le, lowest_below, same_refl, same_true, same_all, same_differs}
+use Rattle.table.proofs.Laws.{pick_yes, pick_no, pick-case, not_both, lowest-is, lowest_none, lowest-le, lowest_below, same_refl, same_true, pointwise-same}
 use Rattle.pala.specs.Lists.{name_at, agreeing, broken, relation, relation_number, relation_index, tail, tail_of}
 use Rattle.pala.specs.Safety.{Begins}
 use Rattle.lists.specs.Tails.{past, tail_start}
-
--- what does not fail passes
-not_of : (b : Bool) → (b ≡ false → ⊥) → b ≡ true
-not_of true h = refl
-not_of false h = absurd (h refl)
 
 -- ---- a name in a list of names
 
 abbrev pub name_from : List ℕ → ℕ → List ℕ
 name_from a from = take name_bytes (drop from a)
-
-name_byte : (a : List ℕ) (from i : ℕ) → i < name_bytes → get_or (name_from a from) i 0 ≡ get_or a (from + i) 0
-name_byte a from i h = get_or-take name_bytes (drop from a) i 0 h ∙ get_or-drop from a i 0
-
-name-length : (a : List ℕ) (from : ℕ) → from + name_bytes ≤ length a → length (name_from a from) ≡ name_bytes
-name-length a from h = length-take-le name_bytes (drop from a) (omega (arith, length-drop from a))
-
--- two names, by their bytes: one that differs, or none
-pub names_differ : (a b : List ℕ) (from i : ℕ) → i < name_bytes → (get_or a (from + i) 0 ≡ get_or b (from + i) 0 → ⊥) → same (name_from a from) (name_from b from) ≡ false
-names_differ a b from i h differ =
-    same_differs (name_from a from) (name_from b from) i (λ e. differ (sym (name_byte a from i h) ∙ e ∙ name_byte b from i h))
-
-pub names_same : (a b : List ℕ) (from : ℕ) → from + name_bytes ≤ length a → from + name_bytes ≤ length b → ((i : ℕ) → i < name_bytes → get_or a (from + i) 0 ≡ get_or b (from + i) 0) → same (name_from a from) (name_from b from) ≡ true
-names_same a b from p q agree =
-    same_all (name_from a from) (name_from b from) name_bytes (name-length a from p) (name-length b from q)
-    (λ i l. name_byte a from i l ∙ agree i l ∙ sym (name_byte b from i l))
 
 -- ---- how many names agree
 
@@ -64,6 +46,27 @@ agreeing_all a b agree =
 pub agreeing-le : (a b : List ℕ) → agreeing a b ≤ in_both a b
 unfolding agreeing
 agreeing-le a b = lowest-le (in_both a b) (λ i. not (same (name_at a i) (name_at b i)))
+
+-- what a search for the first name that differs finds
+pub fork-is : (a b : List ℕ) (n : ℕ) → n ≡ in_both a b
+    → (r : Option ℕ)
+    → MatchOption r ((k : ℕ) → 0 ≤ k → k < n → pointwise nat_eq (name_at a k) (name_at b k) ≡ true)
+    (λ i. (0 ≤ i) × (i < n) × (pointwise nat_eq (name_at a i) (name_at b i) ≡ false) × ((k : ℕ) → 0 ≤ k → k < i → pointwise nat_eq (name_at a k) (name_at b k) ≡ true))
+    → r ≡ pick (ltb (agreeing a b) (in_both a b)) (Some (agreeing a b)) None
+unfolding name_at
+fork-is a b n e None h =
+    let all : agreeing a b ≡ in_both a b = agreeing_all a b (λ i l. sym (pointwise-same (name_at a i) (name_at b i)) ∙ h i zero-le (omega arith)) in
+    sym (pick_no (ltb (agreeing a b) (in_both a b)) (Some (agreeing a b)) None (le-ltb (agreeing a b) (in_both a b) (omega arith)))
+fork-is a b n e (Some i) h =
+    let here : agreeing a b ≡ i = agreeing-is a b i (omega (arith, h.1)) (sym (pointwise-same (name_at a i) (name_at b i)) ∙ h.2) (λ k l. sym (pointwise-same (name_at a k) (name_at b k)) ∙ h.3 k zero-le l) in
+    ap (λ (k : ℕ). Some k) (sym here) ∙ sym (pick_yes (ltb (agreeing a b) (in_both a b)) (Some (agreeing a b)) None (lt-ltb (agreeing a b) (in_both a b) (omega (arith, h.1))))
+
+-- and what it tells
+pub fork_some : (g n k : ℕ) → Some k ≡ pick (ltb g n) (Some g) None → (g ≡ k) × (k < n)
+fork_some g n k h = pick-case (λ (r : Option ℕ). Some k ≡ r → (g ≡ k) × (k < n)) (ltb g n) (Some g) None (λ l e. let s : g ≡ k = cc in (s, omega (arith, ltb-true g n l))) (λ l e. cc) h
+
+pub fork_none : (g n : ℕ) → None ≡ pick (ltb g n) (Some g) None → n ≤ g
+fork_none g n h = pick-case (λ (r : Option ℕ). None ≡ r → n ≤ g) (ltb g n) (Some g) None (λ l e. cc) (λ l e. ltb-false g n l) h
 
 -- the names that agree are the same bytes
 agreeing_names : (a b : List ℕ) (i : ℕ) → i < agreeing a b → name_from a (name_bytes * i) ≡ name_from b (name_bytes * i)
@@ -156,7 +159,7 @@ module _ (a b : List ℕ) where
       ∙ pick_yes (ltb (agreeing a b) (in_both a b)) _ _ (lt-ltb (agreeing a b) (in_both a b) (omega arith))
       ∙ ap (λ (i : ℕ). Relation.Fork i) h.1
   relation-is Relation.Broken h =
-      pick_yes (broken a b) _ _ (not_of (broken a b) (λ e. h (not_broken_whole a b e)))
+      pick_yes (broken a b) _ _ (true_from_ne_false (broken a b) (λ e. h (not_broken_whole a b e)))
 
   -- an index is below the names that both lists have
   pub relation_index_lem : relation_index (relation a b) ≤ in_both a b
@@ -260,10 +263,11 @@ module _ (a b : List ℕ) (p q : ℕ × ℕ) (y : Relation) (found : y ≡ relat
   unfolding tail
   tail-is x e = (ap (λ (z : Relation). tail_of z a b) (sym e ∙ found), ap (λ (z : Relation). tail_start z a b p q) (sym e ∙ found))
 
-  pub empty_tail : (x : Relation) → tail_of x a b ≡ [] → tail_start x a b p q ≡ p → y ≡ x → TailIs [] (past p 0)
-  empty_tail x none start e =
-      let here : past p 0 ≡ p = ap (λ (k : ℕ). (p.0, k)) (omega arith) in
-      (sym none ∙ (tail-is x e).0, here ∙ sym start ∙ (tail-is x e).1)
+  pub empty_tail : (y ≡ Relation.Equal) ⊎ (((k : ℕ) × (y ≡ Relation.Fork k)) ⊎ (y ≡ Relation.Broken)) → TailIs [] p
+  unfolding tail_of tail_start
+  empty_tail (inl e) = tail-is Relation.Equal e
+  empty_tail (inr (inl (k, e))) = tail-is (Relation.Fork k) e
+  empty_tail (inr (inr e)) = tail-is Relation.Broken e
 
   pub first_tail : y ≡ Relation.FirstLonger → TailIs (take (length a - length b) (drop (length b) a)) (past p (length b))
   unfolding tail_of tail_start

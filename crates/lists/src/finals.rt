@@ -1,118 +1,64 @@
 // The final list: "names from the first block after genesis to the kept final block".
 
-ghost use Rattle.std.specs.Prelude.{◌≡◌, ◌&&◌, true, ◌++◌, ◌+◌, ◌*◌, ◌≤◌, leb, ltb, drop, length, take};
-ghost use Rattle.table.specs.Rows.{capacity, name_bytes};
-ghost use Rattle.table.specs.Scan.{pick};
-ghost use Rattle.pala.specs.Lists.{Listed, final_list, final_names, joined};
-ghost use Rattle.pala.specs.Shape.{well_shaped};
+ghost use Rattle.std.specs.Prelude.{◌≡◌, ◌++◌, ◌*◌, ◌≤◌, drop, length};
+ghost use Rattle.table.specs.Rows.{name_bytes};
+ghost use Rattle.pala.specs.Answers.{answered};
+ghost use Rattle.pala.specs.Lists.{final_list, final_names, joined};
 
-use crate::NAME;
-use shape::well_shaped;
-use table::{Answer, CAPACITY, State};
+use shape::shaped::Shaped;
+use table::rows::{at, lower};
+use table::{Answer, CAPACITY, NAME_BYTES, State};
 
-// What reading a final list answers: "the count is returned".
-#[derive(Clone, Copy)]
-pub struct Listing {
-    pub answer: Answer,
-    pub count: u32,
-}
+// Room for the longest list: "up to 64 further blocks".
+pub const LIST_BYTES: usize = NAME_BYTES * CAPACITY as usize;
 
-// The row that a place reads in a table of so many blocks; past the end, the root's.
-fn row_of(p: u32, last: u32) -> u32
-    ensures { result ≡ pick (leb p last && leb p capacity) p 0 }
+// How many names the final list has. Down the parents to the genesis: no index is counted.
+pub fn final_count(s: &State) -> u32
+    ensures { result ≡ length (final_names s.now) }
 {
-    if last < p {
-        return 0;
-    }
-    if CAPACITY < p {
-        return 0;
-    }
-    p
-}
-
-// The next place down; a parent that isn't lower counts as the genesis.
-fn lower(up: u32, p: u32) -> u32
-    ensures { result ≡ pick (ltb up p) up 0 }
-{
-    if up < p {
-        return up;
-    }
-    0
-}
-
-// How many names the final list has.
-pub fn final_count(s: State) -> u32
-    ensures { result ≡ length (final_names s) }
-{
-    let last = s.count;
-    let mut n: u32 = 0;
-    let mut p = s.kept.0;
-    while 0 < p {
-        let i = row_of(p, last) as usize;
-        p = lower(s.blocks[i].parent.0, p);
+    let mut n = 0;
+    let mut p = s.kept;
+    while p.0 > 0 {
+        p = lower(at(s, p).parent, p);
         n += 1;
     }
     n
 }
 
-// Puts a name into a list of bytes, its first byte at `at`.
-fn put_name(list: &mut [u8], at: usize, name: [u8; 32])
-    requires { at + name_bytes ≤ length list.old }
-    ensures { list.new ≡ take at list.old ++ name ++ drop (at + name_bytes) list.old }
+// The names of a final list, so many, from the kept block's down: the last comes first. It walks down once more, as a name's index needs the count first.
+fn write_names(s: &State, list: &mut [u8], count: u32)
+    requires { (count ≡ length (final_names s.now)) × (name_bytes * count ≤ length list.old) }
+    ensures { list.new ≡ joined (final_names s.now) ++ drop (name_bytes * length (final_names s.now)) list.old }
 {
-    let mut k: usize = 0;
-    while k < NAME {
-        list[at + k] = name[k];
-        k += 1;
-    }
-}
-
-// The names of a final list, from the kept block's down, each in front of the one before.
-fn write_names(s: State, list: &mut [u8], count: u32)
-    requires { (count ≡ length (final_names s)) × (name_bytes * count ≤ length list.old) }
-    ensures { list.new ≡ joined (final_names s) ++ drop (name_bytes * length (final_names s)) list.old }
-{
-    let last = s.count;
-    let mut at = NAME * (count as usize);
-    let mut p = s.kept.0;
-    while 0 < p {
-        let i = row_of(p, last) as usize;
-        let b = s.blocks[i];
-        let name = b.name;
-        at -= NAME;
-        put_name(list, at, name);
-        p = lower(b.parent.0, p);
+    let mut p = s.kept;
+    for k in (0..count as usize).rev() {
+        let b = at(s, p);
+        let from = NAME_BYTES * k;
+        list[from..from + NAME_BYTES].copy_from_slice(&b.name);
+        p = lower(b.parent, p);
     }
 }
 
 // The final list of a state that is known to be well shaped; "3 for too little room, nothing written".
-pub fn final_list_shaped(s: State, list: &mut [u8]) -> Listing
-    requires { well_shaped s ≡ true }
-    ensures { ◌≡◌ {A = Listed} (record { answer = result.answer; count = result.count; list = list.new }) (final_list s list.old) }
+pub fn final_list_shaped(s: &Shaped<'_>, list: &mut [u8]) -> Result<u32, Answer>
+    ensures answer { result ≡ answered (final_list s.now list.old).answer (final_list s.now list.old).count }
+    ensures list { list.new ≡ (final_list s.now list.old).list }
 {
-    let count = final_count(s);
-    if list.len() < NAME * (count as usize) {
-        return Listing {
-            answer: Answer::Length,
-            count: 0,
-        };
+    let count = final_count(s.state);
+    if list.len() < NAME_BYTES * count as usize {
+        return Err(Answer::Length);
     }
-    write_names(s, list, count);
-    Listing {
-        answer: Answer::Taken,
-        count: count,
-    }
+    write_names(s.state, list, count);
+    Ok(count)
 }
 
 // "1 for a badly shaped state, 3 for too little room, nothing written. A torn state can be read."
-pub fn final_list(s: State, list: &mut [u8]) -> Listing
-    ensures { ◌≡◌ {A = Listed} (record { answer = result.answer; count = result.count; list = list.new }) (final_list s list.old) }
+pub fn final_list(s: &State, list: &mut [u8]) -> Result<u32, Answer>
+    ensures answer { result ≡ answered (final_list s.now list.old).answer (final_list s.now list.old).count }
+    ensures list { list.new ≡ (final_list s.now list.old).list }
 {
-    if !well_shaped(s) {
-        return Listing {
-            answer: Answer::State,
-            count: 0,
-        };
-    }
-    final_list_shaped(s, list)
+    let Some(shaped) = Shaped::new(s) else {
+        return Err(Answer::State);
+    };
+    final_list_shaped(&shaped, list)
 }

@@ -5,8 +5,3 @@
 
 pub mod finals;
 pub mod relations;
-
-use table::NAME_BYTES;
-
-// "32 bytes each"
-const NAME: usize = NAME_BYTES as usize;

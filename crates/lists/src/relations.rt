@@ -1,111 +1,63 @@
-// "Two final lists": their relation, its number for C, and the tail of the longer one.
+// "Two final lists": their relation, its number for C, and the tail of the longer one. The two stand apart, as C and the tail lend them.
 
-ghost use Rattle.std.specs.Prelude.{◌≡◌, ◌+◌, ◌*◌, ◌/◌, ◌^◌, ◌<◌, ◌≤◌, min, drop, length, take};
-ghost use Rattle.table.specs.Bytes.{same};
+ghost use Rattle.std.specs.Prelude.{◌≡◌, ◌+◌, ◌*◌, ◌/◌, ◌≤◌, ltb, min, length};
 ghost use Rattle.table.specs.Rows.{name_bytes};
-ghost use Rattle.pala.specs.Lists.{agreeing, relation, relation_code, relation_index, tail};
+ghost use Rattle.table.specs.Scan.{pick};
+ghost use Rattle.pala.specs.Lists.{agreeing, name_at, relation, relation_code, tail};
 ghost use Rattle.lists.specs.Tails.{tail_start};
 
-use crate::NAME;
-use table::Relation;
+use std::cmp::Ordering;
+use table::{NAME_BYTES, Relation};
 
 // "The relation reaches C as relation x 2^60 + index."
-const UNIT: u64 = 1152921504606846976;
-// "relation 0 equal"
-const EQUAL: u64 = 0;
-// "1 first longer and beginning with the second"
-const FIRST_LONGER: u64 = UNIT;
-// "2 the reverse"
-const SECOND_LONGER: u64 = 2 * UNIT;
-// "3 fork"
-const FORK: u64 = 3 * UNIT;
-// "4 a length that isn't a multiple of 32"
-const BROKEN: u64 = 4 * UNIT;
+const UNIT: u64 = 1 << 60;
 
-// Are the names that start at `from` in two lists the same.
-fn same_at(a: &[u8], b: &[u8], from: usize) -> bool
-    requires { (from + name_bytes ≤ length a.now) × (from + name_bytes ≤ length b.now) }
-    ensures { result ≡ same (take name_bytes (drop from a.now)) (take name_bytes (drop from b.now)) }
+// The k-th name of a list of names.
+fn name_at(list: &[u8], k: usize) -> &[u8]
+    requires { name_bytes * k + name_bytes ≤ length list.now }
+    ensures { result.now ≡ name_at list.now k }
 {
-    let mut k: usize = 0;
-    while k < NAME {
-        if a[from + k] != b[from + k] {
-            return false;
-        }
-        k += 1;
-    }
-    true
+    let from = NAME_BYTES * k;
+    &list[from..from + NAME_BYTES]
 }
 
-// How many whole names both lists have.
-fn in_both(a: &[u8], b: &[u8]) -> usize
-    ensures { result ≡ min (length a.now / name_bytes) (length b.now / name_bytes) }
+// "3 fork, with the index of the first name that differs", of the whole names that both lists have. By index: std has no law of what `chunks_exact` yields (tried).
+fn fork(a: &[u8], b: &[u8]) -> Option<usize>
+    ensures { result ≡ pick (ltb (agreeing a.now b.now) (min (length a.now / name_bytes) (length b.now / name_bytes))) (Some (agreeing a.now b.now)) None }
 {
-    let first = a.len() / NAME;
-    let second = b.len() / NAME;
-    if first < second {
-        return first;
-    }
-    second
+    let both = (a.len() / NAME_BYTES).min(b.len() / NAME_BYTES);
+    (0..both).find(|k| name_at(a, *k) != name_at(b, *k))
 }
 
-// How many names of both lists agree before the first that differs.
-fn agreeing(a: &[u8], b: &[u8]) -> usize
-    ensures { result ≡ agreeing a.now b.now }
-{
-    let end = in_both(a, b);
-    let mut k: usize = 0;
-    while k < end {
-        if !same_at(a, b, NAME * k) {
-            return k;
-        }
-        k += 1;
-    }
-    end
-}
-
-// How two final lists stand to one another; "3 fork, with the index of the first name that differs".
+// How two final lists stand to one another.
 pub fn relation(a: &[u8], b: &[u8]) -> Relation
     ensures { result ≡ relation a.now b.now }
 {
-    if a.len() % NAME != 0 {
+    if a.len() % NAME_BYTES != 0 || b.len() % NAME_BYTES != 0 {
         return Relation::Broken;
     }
-    if b.len() % NAME != 0 {
-        return Relation::Broken;
-    }
-    let k = agreeing(a, b);
-    if k < in_both(a, b) {
+    if let Some(k) = fork(a, b) {
         return Relation::Fork(k as u64);
     }
-    if a.len() == b.len() {
-        return Relation::Equal;
-    }
-    if b.len() < a.len() {
-        return Relation::FirstLonger;
-    }
-    Relation::SecondLonger
-}
-
-// The number and the index of a relation in one, where the index leaves room for the number.
-fn code_of(x: Relation) -> u64
-    requires { relation_index x < 2 ^ 60 }
-    ensures { result ≡ relation_code x }
-{
-    match x {
-        Relation::Equal => EQUAL,
-        Relation::FirstLonger => FIRST_LONGER,
-        Relation::SecondLonger => SECOND_LONGER,
-        Relation::Fork(k) => FORK + k,
-        Relation::Broken => BROKEN,
+    match a.len().cmp(&b.len()) {
+        Ordering::Equal => Relation::Equal,
+        Ordering::Greater => Relation::FirstLonger,
+        Ordering::Less => Relation::SecondLonger,
     }
 }
 
-// "The relation reaches C as relation x 2^60 + index."
+// "relation 0 equal, 1 first longer and beginning with the second, 2 the reverse, 3 fork, .. 4 a length that isn't a
+// multiple of 32"; "The relation reaches C as relation x 2^60 + index."
 pub fn code(a: &[u8], b: &[u8]) -> u64
     ensures { result ≡ relation_code (relation a.now b.now) }
 {
-    code_of(relation(a, b))
+    match relation(a, b) {
+        Relation::Equal => 0,
+        Relation::FirstLonger => UNIT,
+        Relation::SecondLonger => 2 * UNIT,
+        Relation::Fork(k) => 3 * UNIT + k,
+        Relation::Broken => 4 * UNIT,
+    }
 }
 
 // "the tail of whichever list is longer, as a part of that caller's own slice": its bytes, and where it starts.
@@ -113,12 +65,9 @@ pub fn tail<'a>(a: &'a [u8], b: &'a [u8]) -> &'a [u8]
     ensures result_value { result.now ≡ tail a.now b.now }
     ensures ref_ptr_value { result.ref_ptr ≡ tail_start (relation a.now b.now) a.now b.now a.entry.ref_ptr b.entry.ref_ptr }
 {
-    let x = relation(a, b);
-    match x {
-        Relation::Equal => &a[0..0],
+    match relation(a, b) {
         Relation::FirstLonger => &a[b.len()..],
         Relation::SecondLonger => &b[a.len()..],
-        Relation::Fork(_) => &a[0..0],
-        Relation::Broken => &a[0..0],
+        Relation::Equal | Relation::Fork(_) | Relation::Broken => &a[..0],
     }
 }

@@ -15,9 +15,9 @@ number_of_one κs a r q s t = one-outcome
 is_taken_one : (κs : _) (a : _) (r q : _) (s t : _) → is_taken.Post κs a r s → is_taken.Post κs a q t → r ≡ q
 is_taken_one κs a r q s t = one-outcome
 
-step_one : (κs : _) (a : _) (r q : _) (s t : _) → step.Post κs a r s → step.Post κs a q t → (r ≡ q) × (s.1.1.0.now ≡ t.1.1.0.now)
+step_one : (κs : _) (a : _) (r q : _) (s t : _) → step.Post κs a r s → step.Post κs a q t → (r ≡ q) × (s.0.now ≡ t.0.now) × (s.1.1.0.now ≡ t.1.1.0.now)
 step_one κs a r q s t p h =
-    (ap (λ (o : Outcome). record { answer = o.answer; state = o.state }) (one-outcome p h), ap (λ (o : Outcome). o.out) (one-outcome p h))
+    (ap (λ (o : Outcome). o.answer) (one-outcome p h), ap (λ (o : Outcome). o.state) (one-outcome p h), ap (λ (o : Outcome). o.out) (one-outcome p h))
 
 start_one : (κs : _) (a : _) (r q : _) (s t : _) → start.Post κs a r s → start.Post κs a q t → r ≡ q
 start_one κs a r q s t p h = ap (λ (o : Started). record { answer = o.answer; state = o.state }) (one-outcome p h)
@@ -26,5 +26,5 @@ decide_shaped_one : (κs : _) (a : _) (r q : _) (s t : _) → decide_shaped.Post
 decide_shaped_one κs a r q s t = one-outcome
 
 -- its state is said for every record that was so decided, and there is one
-take_shaped_one : (κs : _) (a : _) (r q : _) (s t : _) → take_shaped.Pre κs a → take_shaped.Post κs a r s → take_shaped.Post κs a q t → r ≡ q
-take_shaped_one κs a r q s t h p k = one-outcome (p h.2.0 h.2.1) (k h.2.0 h.2.1)
+take_shaped_one : (κs : _) (a : _) (r q : _) (s t : _) → take_shaped.Pre κs a → take_shaped.Post κs a r s → take_shaped.Post κs a q t → s.0.now ≡ t.0.now
+take_shaped_one κs a r q s t h p k = one-outcome (p.0 h.1.0 h.1.1) (k.0 h.1.0 h.1.1)

@@ -1,13 +1,11 @@
 -- What a granted record tells of a state, kind by kind, and its direct effect in the words of its fields. Assumes nothing.
-use Prim.Native.Nat.{ℕ, suc, ◌+◌, ◌≤◌, ◌<◌}
+use Prim.Native.Nat.{ℕ, ◌+◌, ◌<◌}
 use mathlib.Core.Bool.{true, false, not, ◌||◌}
-use mathlib.Core.List.{List}
+use mathlib.Core.List.{List, [], ◌∷◌}
 use mathlib.Core.Path.{◌≡◌, sym, ap, subst, ◌∙◌}
 use native.Mathlib.Omega.{arith}
-use borrow.Author.Tests.{leb-true, leb-false, ltb-true, not-false}
+use borrow.Author.Tests.{leb-false, ltb-true, not-false}
 use lib.Dec.{eqb, ltb, leb}
-use lib.ListN.{length}
-use Rattle.table.specs.declared.Block.{Block}
 use Rattle.table.specs.declared.Place.{Place}
 use Rattle.table.specs.declared.State.{State}
 use Rattle.table.specs.Scan.{pick}
@@ -18,12 +16,13 @@ use Rattle.pala.specs.Effects.{new_block, with_block, with_vote, with_clock, pro
 use Rattle.pala.specs.Record.{kind_of, sender_of, epoch_of, name_of, payload_of, known_kind, proposal_heard, vote_heard, clock_heard, propose_now, cast_now, minute_up}
 use Rattle.pala.specs.Shape.{well_shaped}
 use Rattle.pala.specs.Step.{room}
-use Rattle.pala.proofs.Keeps.{size-shaped}
 use Rattle.pala.proofs.Moves.{Passed, passed}
-use Rattle.pala.proofs.Shapes.{and_l, and_r, shaped-nodes}
+use Rattle.pala.proofs.Shapes.{shaped-nodes}
 use Rattle.pala.proofs.Tests.{nor_l, nor_r, nand}
 use Rattle.record.specs.declared.Fields.{Fields}
 use Rattle.record.specs.Fields.{fields_of}
+use Rattle.record.specs.Numbers.{kind_in}
+use Rattle.std.specs.Result.{IsOk}
 use Rattle.node.specs.Moves.{place_for, Granted}
 
 -- ---- the direct effect of each kind
@@ -55,6 +54,10 @@ module _ (s : State) (r : List ℕ) (p : ℕ) (there : p ≡ place_for s r) wher
 
 -- ---- what the rows passed tell
 
+some_kind : (n : ℕ) → known_kind (n ∷ []) ≡ true → IsOk (kind_in n)
+unfolding known_kind kind_in pick
+some_kind n h = grind arith
+
 module _ {s : State} {f : Fields} {place : Place} {r : List ℕ} (g : Granted s f place r) where
   rows_passed : Passed room s r g.out
   rows_passed = passed room s r g.out g.takes
@@ -67,15 +70,12 @@ module _ {s : State} {f : Fields} {place : Place} {r : List ℕ} (g : Granted s 
   pub by_fields_lem : (P : Fields → Type 0) → P (fields_of r) → P f
   by_fields_lem P h = subst P (sym g.fields) h
 
-  -- a kind that is none of the first five is the sixth
-  pub last-kind : (f.kind ≡ proposal_heard → ⊥) → (f.kind ≡ vote_heard → ⊥) → (f.kind ≡ clock_heard → ⊥) → (f.kind ≡ propose_now → ⊥) → (f.kind ≡ cast_now → ⊥) → f.kind ≡ minute_up
-  unfolding known_kind fields_of
-  last-kind a b c d e =
-      let known : known_kind r ≡ true = not-false (known_kind r) rows_passed.kind in
-      let least : proposal_heard ≤ kind_of r = leb-true proposal_heard (kind_of r) (and_l (leb proposal_heard (kind_of r)) (leb (kind_of r) minute_up) known) in
-      let most : kind_of r ≤ minute_up = leb-true (kind_of r) minute_up (and_r (leb proposal_heard (kind_of r)) (leb (kind_of r) minute_up) known) in
-      let same : f.kind ≡ kind_of r = ap (λ (x : Fields). x.kind) g.fields in
-      omega arith
+  -- "kind isn't 1 to 6"
+  pub kind_there : IsOk (kind_in f.kind)
+  unfolding fields_of known_kind
+  kind_there =
+      let known : known_kind (kind_of r ∷ []) ≡ true = not-false (known_kind r) rows_passed.kind in
+      rw (ap (λ (x : Fields). x.kind) g.fields) (some_kind (kind_of r) known)
 
   -- "kinds 1, 4: 64 blocks held"
   pub room_left : {k : ℕ} → f.kind ≡ k → (eqb k proposal_heard || eqb k propose_now) ≡ true → s.count < capacity
@@ -101,33 +101,31 @@ module _ {s : State} {f : Fields} {place : Place} {r : List ℕ} (g : Granted s 
         let low : sender_of r < s.n = leb-false s.n (sender_of r) (nor_l _ _ rows_passed.sender) in
         omega (arith, shaped-nodes s h)
 
-    module _ (l : length s.blocks ≡ suc capacity) where
-      -- "Kind 2: name not in the table"
-      pub vote-held : f.kind ≡ vote_heard → place.0 ≤ s.count
-      unfolding unknown place_for pick
-      vote-held e =
-          let at-find : place.0 ≡ find (rows s) (name_of r) = g.there ∙ simp (of_kind e) in
-          let place_of : ℕ = find (rows s) (name_of r) in
-          let known : (eqb place_of 0 || leb (size (rows s)) place_of) ≡ false = simp (of_kind e) at rows_passed.known in
-          let low : place_of < size (rows s) = leb-false (size (rows s)) place_of (nor_r (eqb place_of 0) (leb (size (rows s)) place_of) known) in
-          omega (arith, size-shaped s l h)
+  -- "Kind 2: name not in the table"
+  pub vote-held : f.kind ≡ vote_heard → place.0 < size (rows s)
+  unfolding unknown place_for pick
+  vote-held e =
+      let at-find : place.0 ≡ find (rows s) (name_of r) = g.there ∙ simp (of_kind e) in
+      let place_of : ℕ = find (rows s) (name_of r) in
+      let known : (eqb place_of 0 || leb (size (rows s)) place_of) ≡ false = simp (of_kind e) at rows_passed.known in
+      let low : place_of < size (rows s) = leb-false (size (rows s)) place_of (nor_r (eqb place_of 0) (leb (size (rows s)) place_of) known) in
+      omega arith
 
-      -- "kind 5: no block may be voted for"
-      pub cast-held : f.kind ≡ cast_now → place.0 ≤ s.count
-      unfolding nothing place_for pick picked
-      cast-held e =
-          let at-picked : place.0 ≡ picked s = g.there ∙ simp (of_kind e) in
-          let low : picked s < size (rows s) = leb-false (size (rows s)) (picked s) (simp (of_kind e) at rows_passed.ballots) in
-          omega (arith, size-shaped s l h)
+  -- "kind 5: no block may be voted for"
+  pub cast-held : f.kind ≡ cast_now → place.0 < size (rows s)
+  unfolding nothing place_for pick picked
+  cast-held e =
+      let at-picked : place.0 ≡ picked s = g.there ∙ simp (of_kind e) in
+      let low : picked s < size (rows s) = leb-false (size (rows s)) (picked s) (simp (of_kind e) at rows_passed.ballots) in
+      omega arith
 
   -- ---- its effect, in the words of the fields
 
-  pub proposal_done : f.kind ≡ proposal_heard → {b : Block} → b ≡ new_block f.name f.epoch.0 place.0 f.payload → with_block s b s.proposed.0 ≡ effect s r
+  pub proposal_done : f.kind ≡ proposal_heard → with_block s (new_block f.name f.epoch.0 place.0 f.payload) s.proposed.0 ≡ effect s r
   unfolding fields_of
-  proposal_done e new =
-      ap (λ (x : Block). with_block s x s.proposed.0) new
-      ∙ by_fields_lem (λ (x : Fields). x.kind ≡ proposal_heard → with_block s (new_block x.name x.epoch.0 place.0 x.payload) s.proposed.0 ≡ effect s r)
-      (proposal_effect_lem s r place.0 g.there) e
+  proposal_done =
+      by_fields_lem (λ (x : Fields). x.kind ≡ proposal_heard → with_block s (new_block x.name x.epoch.0 place.0 x.payload) s.proposed.0 ≡ effect s r)
+      (proposal_effect_lem s r place.0 g.there)
 
   pub vote-done : f.kind ≡ vote_heard → with_vote s place.0 f.sender.0 s.voted.0 ≡ effect s r
   unfolding fields_of
@@ -141,12 +139,11 @@ module _ {s : State} {f : Fields} {place : Place} {r : List ℕ} (g : Granted s 
       by_fields_lem (λ (x : Fields). x.kind ≡ clock_heard → with_clock s x.sender.0 x.epoch.0 ≡ effect s r)
       (clock-effect s r place.0 g.there)
 
-  pub propose_done : f.kind ≡ propose_now → {b : Block} → b ≡ new_block f.name s.local.0 place.0 f.payload → with_block s b s.local.0 ≡ effect s r
+  pub propose_done : f.kind ≡ propose_now → with_block s (new_block f.name s.local.0 place.0 f.payload) s.local.0 ≡ effect s r
   unfolding fields_of
-  propose_done e new =
-      ap (λ (x : Block). with_block s x s.local.0) new
-      ∙ by_fields_lem (λ (x : Fields). x.kind ≡ propose_now → with_block s (new_block x.name s.local.0 place.0 x.payload) s.local.0 ≡ effect s r)
-      (propose_effect_lem s r place.0 g.there) e
+  propose_done =
+      by_fields_lem (λ (x : Fields). x.kind ≡ propose_now → with_block s (new_block x.name s.local.0 place.0 x.payload) s.local.0 ≡ effect s r)
+      (propose_effect_lem s r place.0 g.there)
 
   pub cast-done : f.kind ≡ cast_now → with_vote s place.0 s.own.0 s.local.0 ≡ effect s r
   cast-done e = cast-effect s r place.0 g.there (of_kind e)

@@ -2,9 +2,10 @@
 pub mod Ways
 pub mod ByKind
 pub mod Facts
-pub mod Settles
-pub mod Stores
 pub mod Grants
-pub mod Sends
+pub mod Stores
+pub mod Settles
 pub mod Calls
+pub mod Sends
+pub mod Numbers
 pub mod Determined

@@ -1,5 +1,5 @@
 -- What a granted record has the node send, kind by kind. Assumes nothing.
-use Prim.Native.Nat.{ℕ, ◌+◌, ◌%◌}
+use Prim.Native.Nat.{ℕ, ◌+◌, ◌≤◌, ◌%◌}
 use mathlib.Core.Bool.{true}
 use mathlib.Core.List.{List}
 use mathlib.Core.Path.{◌≡◌, refl, sym, ap, ◌∙◌}
@@ -39,14 +39,15 @@ module _ (s : State) (r : List ℕ) (p : ℕ) (there : p ≡ place_for s r) (out
 
 module _ {s : State} {f : Fields} {place : Place} {r : List ℕ} (g : Granted s f place r) (out : List ℕ) where
   -- kinds 1 to 3 leave the buffer as it was
-  pub unsent : (f.kind ≡ propose_now → ⊥) → (f.kind ≡ cast_now → ⊥) → (f.kind ≡ minute_up → ⊥) → out ≡ sent s r out
+  pub unsent : f.kind ≤ clock_heard → out ≡ sent s r out
   unfolding sent fields_of
-  unsent a b c =
+  unsent h =
       let same : f.kind ≡ kind_of r = ap (λ (x : Fields). x.kind) g.fields in
+      let low : kind_of r ≤ clock_heard = omega arith in
       sym
-      (pick_no (eqb (kind_of r) propose_now) _ _ (ne_eqb (kind_of r) propose_now (λ e. a (same ∙ e)))
-      ∙ pick_no (eqb (kind_of r) cast_now) _ _ (ne_eqb (kind_of r) cast_now (λ e. b (same ∙ e)))
-      ∙ pick_no (eqb (kind_of r) minute_up) _ out (ne_eqb (kind_of r) minute_up (λ e. c (same ∙ e))))
+      (pick_no (eqb (kind_of r) propose_now) _ _ (ne_eqb (kind_of r) propose_now (λ e. absurd (omega arith)))
+      ∙ pick_no (eqb (kind_of r) cast_now) _ _ (ne_eqb (kind_of r) cast_now (λ e. absurd (omega arith)))
+      ∙ pick_no (eqb (kind_of r) minute_up) _ out (ne_eqb (kind_of r) minute_up (λ e. absurd (omega arith))))
 
   module _ (h : well_shaped s ≡ true) (l : length out ≡ record_bytes) where
     -- some fields written whole, with the own number as the sender

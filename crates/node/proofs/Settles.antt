@@ -1,12 +1,12 @@
 -- The five steps from where a state stands, and that after a taken record there is an epoch above the freshest one. Assumes nothing.
 use Prim.Native.Nat.{ℕ, suc, ◌+◌, ◌≤◌, ◌<◌, max}
-use mathlib.Core.Bool.{Bool, true, not, ◌||◌}
+use mathlib.Core.Bool.{Bool, true, false, not, ◌||◌}
 use mathlib.Core.List.{List}
 use mathlib.Core.Logic.{⊎_elim}
-use mathlib.Core.Path.{◌≡◌, sym, ap, ◌∙◌}
+use mathlib.Core.Path.{◌≡◌, refl, sym, ap, ◌∙◌}
 use native.Mathlib.Omega.{arith}
 use lib.Dec.{ltb}
-use lib.ListN.{length, length-set}
+use lib.ListN.{length}
 use Rattle.table.specs.declared.Epoch.{Epoch}
 use Rattle.table.specs.declared.Place.{Place}
 use Rattle.table.specs.declared.State.{State}
@@ -15,7 +15,7 @@ use Rattle.table.specs.Rows.{capacity, rows, size}
 use Rattle.table.proofs.Laws.{pick_yes, size-rows, highest-passes}
 use Rattle.pala.specs.Answers.{taken, lowest_of, shaped_rows}
 use Rattle.pala.specs.Counts.{top_epoch}
-use Rattle.pala.specs.Effects.{put, effect}
+use Rattle.pala.specs.Effects.{effect}
 use Rattle.pala.specs.Rules.{epoch_at, firm, freshest}
 use Rattle.pala.specs.Shape.{well_shaped}
 use Rattle.pala.specs.Step.{room, outcome, step_shaped}
@@ -23,86 +23,60 @@ use Rattle.pala.specs.Steps.{fresh_epoch, new_local, new_bar, new_kept, new_torn
 use Rattle.pala.proofs.Keeps.{step-shaped}
 use Rattle.pala.proofs.Shapes.{shaped-epoch}
 use Rattle.rules.specs.declared.Standing.{Standing}
-use Rattle.rules.specs.declared.columns.Columns.{Columns}
-use Rattle.rules.specs.Columns.{columns}
-use Rattle.rules.specs.Standing.{standing_by}
-use Rattle.rules.proofs.Shown.{standing, standing_shown}
-use Rattle.node.specs.declared.effects.Effect.{Effect}
-use Rattle.node.specs.Done.{done}
+use Rattle.rules.proofs.Shown.{standing}
 
 -- ---- the steps
 
--- an effect leaves as many rows
-pub done-rows : (s : State) (e : Effect) → length s.blocks ≡ suc capacity → length (done s e).blocks ≡ suc capacity
-unfolding done put
-done-rows s e l = length-set s.blocks e.row.0 e.block ∙ l
-
--- where a state stands, told of its columns
-pub stands :
-    (t : State) → length t.blocks ≡ suc capacity → (c : Columns) → c ≡ columns t → (stand : Standing) →
-    stand ≡ standing_by c t.clocks t.n t.local.0 t.kept.0 → stand ≡ standing t
-stands t l c e stand h = h ∙ standing_shown t l c e
-
-module _ (s : State) (stand : Standing) (local bar : Epoch) (kept : Place) (e : stand ≡ standing s) where
-  -- "the greatest of the old one, the freshest epoch + 1, and the number c"
-  local_is : local ≡ record { 0 = max stand.clock.0 (stand.fresh.0 + 1) } → local.0 ≡ new_local s
-  unfolding standing new_local
-  local_is l =
-      let fresh : stand.fresh.0 ≡ fresh_epoch s = ap (λ (x : Standing). x.fresh.0) e in
-      let clock = ap (λ (x : Standing). x.clock.0) e in
-      let new : local.0 ≡ max stand.clock.0 (stand.fresh.0 + 1) = ap (λ (x : Epoch). x.0) l in
-      omega arith
-
-  -- "If it rose, the bar becomes the freshest block's epoch."
-  bar_is : local.0 ≡ new_local s → bar ≡ record { 0 = pick (ltb s.local.0 local.0) stand.fresh.0 s.bar.0 } → bar.0 ≡ new_bar s
-  unfolding standing new_bar
-  bar_is l b =
-      ap (λ (x : Epoch). x.0) b
-      ∙ ap (λ (x : ℕ). pick (ltb s.local.0 x) stand.fresh.0 s.bar.0) l
-      ∙ ap (λ (x : Standing). pick (ltb s.local.0 (new_local s)) x.fresh.0 s.bar.0) e
-
-  -- "If the candidate is the kept final block or descends from it, it is kept instead."
-  kept-is : kept ≡ record { 0 = pick stand.forward stand.candidate.0 s.kept.0 } → kept.0 ≡ new_kept s
-  unfolding standing new_kept
-  kept-is k =
-      ap (λ (x : Place). x.0) k ∙ ap (λ (x : Standing). pick x.forward x.candidate.0 s.kept.0) e
-
-  -- "Otherwise it stays and the state is torn"
-  torn_is : (s.torn || not (stand.forward || stand.back)) ≡ new_torn s
-  unfolding standing new_torn
-  torn_is = ap (λ (x : Standing). s.torn || not (x.forward || x.back)) e
-
--- a state with what the steps change
-abbrev pub after : State → ℕ → ℕ → ℕ → Bool → State
-after s local bar kept torn =
+-- a state with what the steps make of where it stands
+abbrev pub stepped : State → Standing → ℕ → Epoch → Place → State
+stepped s x local bar kept =
     record {
       blocks = s.blocks;
       clocks = s.clocks;
       n = s.n;
       own = s.own;
       local = record { 0 = local };
-      bar = record { 0 = bar };
+      bar = bar;
       voted = s.voted;
       proposed = s.proposed;
       count = s.count;
-      kept = record { 0 = kept };
-      torn = torn;
+      kept = kept;
+      torn = s.torn || not (x.forward || x.back);
     }
 
-pub settles :
-    (s : State) (stand : Standing) (local bar : Epoch) (kept : Place) →
-    stand ≡ standing s →
-    local ≡ record { 0 = max stand.clock.0 (stand.fresh.0 + 1) } →
-    bar ≡ record { 0 = pick (ltb s.local.0 local.0) stand.fresh.0 s.bar.0 } →
-    kept ≡ record { 0 = pick stand.forward stand.candidate.0 s.kept.0 } →
-    after s local.0 bar.0 kept.0 (s.torn || not (stand.forward || stand.back)) ≡ settled s
-unfolding settled
-settles s stand local bar kept e l b k =
-    let new : local.0 ≡ new_local s = local_is s stand local bar kept e l in
-    ap (λ (x : ℕ). after s x bar.0 kept.0 (s.torn || not (stand.forward || stand.back))) new
-    ∙ ap (λ (x : ℕ). after s (new_local s) x kept.0 (s.torn || not (stand.forward || stand.back))) (bar_is s stand local bar kept e new b)
-    ∙ ap (λ (x : ℕ). after s (new_local s) (new_bar s) x (s.torn || not (stand.forward || stand.back))) (kept-is s stand local bar kept e k)
-    ∙ ap (λ (x : Bool). after s (new_local s) (new_bar s) (new_kept s) x) (torn_is s stand local bar kept e)
+-- a choice of two wrapped numbers
+epoch_pick : (b : Bool) (x y : Epoch) → pick b x y ≡ record { 0 = pick b x.0 y.0 }
+unfolding pick
+epoch_pick true x y = refl
+epoch_pick false x y = refl
+
+place_pick : (b : Bool) (x y : Place) → pick b x y ≡ record { 0 = pick b x.0 y.0 }
+unfolding pick
+place_pick true x y = refl
+place_pick false x y = refl
+
+module _ (s : State) where
+  -- "the greatest of the old one, the freshest epoch + 1, and the number c"
+  local_is : max (standing s).clock.0 ((standing s).fresh.0 + 1) ≡ new_local s
+  unfolding standing new_local
+  local_is = omega arith
+
+  stood : stepped s (standing s) (new_local s) (pick (ltb s.local.0 (new_local s)) (standing s).fresh s.bar) (pick (standing s).forward (standing s).candidate s.kept) ≡ settled s
+  unfolding standing settled new_bar new_kept new_torn
+  stood =
+      ap (λ (x : Epoch). stepped s (standing s) (new_local s) x (pick (standing s).forward (standing s).candidate s.kept)) (epoch_pick (ltb s.local.0 (new_local s)) (standing s).fresh s.bar)
+      ∙ ap (λ (x : Place). stepped s (standing s) (new_local s) (record { 0 = new_bar s }) x) (place_pick (standing s).forward (standing s).candidate s.kept)
+
+  pub settles : (x : Standing) (local : ℕ) {bar : Epoch} {kept : Place} → x ≡ standing s →
+      local ≡ max x.clock.0 (x.fresh.0 + 1) → bar ≡ pick (ltb s.local.0 local) x.fresh s.bar → kept ≡ pick x.forward x.candidate s.kept →
+      stepped s x local bar kept ≡ settled s
+  settles x local {bar} {kept} e l b k =
+      let new : local ≡ new_local s = l ∙ ap (λ (y : Standing). max y.clock.0 (y.fresh.0 + 1)) e ∙ local_is in
+      ap (λ (y : Epoch). stepped s x local y kept) b
+      ∙ ap (λ (y : Place). stepped s x local (pick (ltb s.local.0 local) x.fresh s.bar) y) k
+      ∙ ap (λ (y : ℕ). stepped s x y (pick (ltb s.local.0 y) x.fresh s.bar) (pick x.forward x.candidate s.kept)) new
+      ∙ ap (λ (y : Standing). stepped s y (new_local s) (pick (ltb s.local.0 (new_local s)) y.fresh s.bar) (pick y.forward y.candidate s.kept)) e
+      ∙ stood
 
 -- ---- the freshest epoch
 

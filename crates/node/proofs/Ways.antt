@@ -2,21 +2,23 @@
 use Prim.Native.Nat.{ℕ}
 use mathlib.Core.Bool.{Bool, true, false}
 use mathlib.Core.List.{List, [], ◌∷◌}
+use mathlib.Core.Logic.{⊎_elim}
 use mathlib.Core.Path.{◌≡◌, refl, sym, ap, ◌∙◌}
-use lib.ListN.{drop}
+use Rattle.std.specs.Prelude.{Result, Ok, Err}
 use Rattle.table.specs.declared.Answer.{Answer}
-use Rattle.table.specs.Scan.{pick}
+use Rattle.table.specs.declared.Place.{Place}
 use Rattle.table.proofs.Laws.{pick_yes, pick_no}
-use Rattle.pala.specs.Answers.{taken, lowest_of}
-use Rattle.node.specs.declared.Move.{Move}
+use Rattle.pala.specs.Answers.{taken, answered, lowest_of}
+use Rattle.pala.proofs.Tests.{either}
+use Rattle.pala.proofs.Rows.{answered_taken, answered_refused}
 use Rattle.node.specs.Moves.{move_by}
 
 -- a way through some rows, to a move; what rests may be known otherwise
-pub data Through : List (Bool × Answer) → ℕ → Move → Type 0 where
-  refuses : {b : Bool} {a : Answer} {more : List (Bool × Answer)} {p : ℕ} → b ≡ true → taken a ≡ false → Through ((b, a) ∷ more) p (record { answer = a; place = record { 0 = 0 } })
-  passes : {b : Bool} {a : Answer} {more : List (Bool × Answer)} {p : ℕ} {m : Move} → b ≡ false → Through more p m → Through ((b, a) ∷ more) p m
-  rests : {more : List (Bool × Answer)} {p : ℕ} {m : Move} → m ≡ move_by more p → Through more p m
-  takes : {p : ℕ} → Through [] p (record { answer = Answer.Taken; place = record { 0 = p } })
+pub data Through : List (Bool × Answer) → ℕ → Result Place Answer → Type 0 where
+  refuses : {b : Bool} {a : Answer} {more : List (Bool × Answer)} {p : ℕ} → b ≡ true → taken a ≡ false → Through ((b, a) ∷ more) p (Err a)
+  passes : {b : Bool} {a : Answer} {more : List (Bool × Answer)} {p : ℕ} {m : Result Place Answer} → b ≡ false → Through more p m → Through ((b, a) ∷ more) p m
+  rests : {more : List (Bool × Answer)} {p : ℕ} {m : Result Place Answer} → m ≡ move_by more p → Through more p m
+  takes : {p : ℕ} → Through [] p (Ok (record { 0 = p }))
 
 pub row_yes : (b : Bool) (a : Answer) (more : List (Bool × Answer)) → b ≡ true → lowest_of ((b, a) ∷ more) ≡ a
 unfolding lowest_of
@@ -26,19 +28,26 @@ pub row_no : (b : Bool) (a : Answer) (more : List (Bool × Answer)) → b ≡ fa
 unfolding lowest_of
 row_no b a more h = pick_no b a (lowest_of more) h
 
-move_of : Answer → ℕ → Move
-unfolding pick taken
-move_of a p = record { answer = a; place = record { 0 = pick (taken a) p 0 } }
+move_of : Answer → ℕ → Result Place Answer
+move_of a p = answered a (record { 0 = p })
 
-pub through : {tests : List (Bool × Answer)} {p : ℕ} {m : Move} → Through tests p m → m ≡ move_by tests p
-unfolding move_by move_of
+pub through : {tests : List (Bool × Answer)} {p : ℕ} {m : Result Place Answer} → Through tests p m → m ≡ move_by tests p
+unfolding move_by move_of lowest_of taken
 through (refuses {b} {a} {more} {p} h t) =
-    ap (λ (k : ℕ). record { answer = a; place = record { 0 = k } }) (sym (pick_no (taken a) p 0 t))
-    ∙ sym (ap (λ (x : Answer). move_of x p) (row_yes b a more h))
+    sym (answered_refused a (record { 0 = p }) t) ∙ sym (ap (λ (x : Answer). move_of x p) (row_yes b a more h))
 through (passes {b} {a} {more} {p} h way) = through way ∙ sym (ap (λ (x : Answer). move_of x p) (row_no b a more h))
 through (rests e) = e
-through takes = refl
+through (takes {p}) = sym (answered_taken Answer.Taken (record { 0 = p }) refl)
 
--- the first k rows passed
-abbrev pub Past : List (Bool × Answer) → ℕ → ℕ → Type 0
-Past tests p k = (m : Move) → Through (drop k tests) p m → Through tests p m
+-- a move that is taken, and one that is refused
+pub answered_ok : (a : Answer) (x p : Place) → answered a x ≡ Ok p → (taken a ≡ true) × (p ≡ x)
+answered_ok a x p h =
+    ⊎_elim (λ (t : taken a ≡ true). let e : ◌≡◌ {A = Result Place Answer} (Ok p) (Ok x) = sym h ∙ answered_taken a x t in (t, cc))
+    (λ (t : taken a ≡ false). let e : ◌≡◌ {A = Result Place Answer} (Ok p) (Err a) = sym h ∙ answered_refused a x t in cc)
+    (either (taken a))
+
+pub answered_err : (a : Answer) (x : Place) (b : Answer) → answered a x ≡ Err b → (taken a ≡ false) × (a ≡ b)
+answered_err a x b h =
+    ⊎_elim (λ (t : taken a ≡ true). let e : ◌≡◌ {A = Result Place Answer} (Err b) (Ok x) = sym h ∙ answered_taken a x t in cc)
+    (λ (t : taken a ≡ false). let e : ◌≡◌ {A = Result Place Answer} (Err b) (Err a) = sym h ∙ answered_refused a x t in (t, cc))
+    (either (taken a))

@@ -1,3 +1,2 @@
--- What deciding a record hands on, and what its direct effect makes of a state.
+-- What deciding a record hands on.
 pub mod Moves
-pub mod Done

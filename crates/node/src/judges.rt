@@ -1,176 +1,144 @@
-// Rows 7 to 14 for each kind of record, one early return for each test, in the order of the rows.
+// Rows 7 to 14 for each kind of record, in the order of the rows. Each kind has its own rows in 01's words; what two kinds share stands first.
+// A State and the Fields of a record are two things, and the fields don't hold the record that a row is of: so each clause names it.
 
-ghost use Rattle.std.specs.Prelude.{ℕ, true, List, ◌≡◌};
-ghost use Rattle.pala.specs.Record.{proposal_heard, vote_heard, clock_heard, propose_now, cast_now, minute_up};
-ghost use Rattle.pala.specs.Shape.{well_shaped};
+ghost use Rattle.std.specs.Prelude.{ℕ, ◌<◌, ◌||◌, ltb, List, ◌≡◌};
+ghost use Rattle.table.specs.Bytes.{zeros};
+ghost use Rattle.table.specs.Rows.{find, rows, size};
+ghost use Rattle.pala.specs.Answers.{proposer};
+ghost use Rattle.pala.specs.Counts.{clock_of};
+ghost use Rattle.pala.specs.Record.{kind_of, proposal_heard, vote_heard, clock_heard, propose_now, cast_now, minute_up};
 ghost use Rattle.record.specs.Fields.{fields_of};
 ghost use Rattle.node.specs.Moves.{judged};
 
-use crate::Move;
-use crate::moves::{clock_from, refused};
 use record::Fields;
 use rules::steps::{ballot, freshest};
 use table::names::zero_name;
-use table::rows::find;
+use table::rows::{at, find};
 use table::voters::has_voter;
-use table::{Answer, CAPACITY, Place, State};
+use table::{Answer, CAPACITY, Epoch, NAME_BYTES, NodeNo, Place, State, TOP_EPOCH};
 
-// "local epochs from 1 to 4,294,967,295"
-const TOP_EPOCH: u32 = 4294967295;
+// "kinds 1, 4: name all zero or already in the table"
+#[tactic(auto, using(crate::proofs::Facts::is_there))]
+fn bad_name(s: &State, name: &[u8; NAME_BYTES]) -> bool
+    ensures { result ≡ (zeros name.now || ltb (find (rows s.now) name.now) (size (rows s.now))) }
+{
+    zero_name(name) || find(s, name).is_some()
+}
+
+// "the highest clock kept from each node"; 0 where none is kept and, as `clock_of` says, past the clocks.
+fn clock_from(s: &State, who: NodeNo) -> Epoch
+    ensures { result.0 ≡ clock_of s.now.clocks who.0 }
+{
+    s.clocks.get(who.0 as usize).copied().unwrap_or(Epoch(0))
+}
+
+// "proposer of epoch e is e mod n". It asks for n above 0 and for no well-shaped state: a remainder needs no more.
+#[tactic(auto, unfolding(pala::specs::Answers::proposer))]
+fn proposer(s: &State, e: Epoch) -> NodeNo
+    requires { 0 < s.now.n }
+    ensures { result.0 ≡ proposer s.now.n e.0 }
+{
+    NodeNo(e.0 % s.n)
+}
 
 // "1 proposal heard"
-pub fn judge_proposal(s: State, f: Fields) -> Move
-    requires { (well_shaped s ≡ true) × (f.kind ≡ proposal_heard) }
-    ensures { (r : List ℕ) → f ≡ fields_of r → result ≡ judged s r }
+pub fn judge_proposal(s: &State, f: &Fields) -> Result<Place, Answer>
+    requires nodes { 0 < s.now.n }
+    requires kind { f.now.kind ≡ proposal_heard }
+    ensures { (r : List ℕ) → f.now ≡ fields_of r → result ≡ judged s.now r }
 {
-    let e = f.epoch.0;
-    if e == 0 {
-        return refused(Answer::Epoch);
+    if f.epoch == Epoch(0) || TOP_EPOCH <= f.epoch {
+        return Err(Answer::Epoch);
     }
-    if TOP_EPOCH <= e {
-        return refused(Answer::Epoch);
+    if bad_name(s, &f.name) {
+        return Err(Answer::Name);
     }
-    let name = f.name;
-    if zero_name(name) {
-        return refused(Answer::Name);
+    let parent = find(s, &f.parent).ok_or(Answer::Unknown)?;
+    if f.epoch <= at(s, parent).epoch {
+        return Err(Answer::Order);
     }
-    let held = find(s, name).place;
-    if held.0 <= s.count {
-        return refused(Answer::Name);
-    }
-    let above = f.parent;
-    let found = find(s, above);
-    let parent = found.place;
-    if s.count < parent.0 {
-        return refused(Answer::Unknown);
-    }
-    let b = found.block;
-    if e <= b.epoch.0 {
-        return refused(Answer::Order);
-    }
-    if f.sender.0 != e % s.n {
-        return refused(Answer::Turn);
+    if f.sender != proposer(s, f.epoch) {
+        return Err(Answer::Turn);
     }
     if CAPACITY <= s.count {
-        return refused(Answer::Full);
+        return Err(Answer::Full);
     }
-    Move {
-        answer: Answer::Taken,
-        place: parent,
-    }
+    Ok(parent)
 }
 
 // "2 vote heard"
-pub fn judge_vote(s: State, f: Fields) -> Move
-    requires { (well_shaped s ≡ true) × (f.kind ≡ vote_heard) }
-    ensures { (r : List ℕ) → f ≡ fields_of r → result ≡ judged s r }
+pub fn judge_vote(s: &State, f: &Fields) -> Result<Place, Answer>
+    requires { f.now.kind ≡ vote_heard }
+    ensures { (r : List ℕ) → f.now ≡ fields_of r → result ≡ judged s.now r }
 {
-    let name = f.name;
-    let found = find(s, name);
-    let block = found.place;
-    if block.0 == 0 {
-        return refused(Answer::Unknown);
+    let block = find(s, &f.name).ok_or(Answer::Unknown)?;
+    if block == Place(0) {
+        return Err(Answer::Unknown);
     }
-    if s.count < block.0 {
-        return refused(Answer::Unknown);
+    if has_voter(at(s, block), f.sender) {
+        return Err(Answer::Repeat);
     }
-    if has_voter(found.block, f.sender) {
-        return refused(Answer::Repeat);
-    }
-    Move {
-        answer: Answer::Taken,
-        place: block,
-    }
+    Ok(block)
 }
 
 // "3 clock heard"
-pub fn judge_clock(s: State, f: Fields) -> Move
-    requires { (well_shaped s ≡ true) × (f.kind ≡ clock_heard) }
-    ensures { (r : List ℕ) → f ≡ fields_of r → result ≡ judged s r }
+pub fn judge_clock(s: &State, f: &Fields) -> Result<Place, Answer>
+    requires { f.now.kind ≡ clock_heard }
+    ensures { (r : List ℕ) → f.now ≡ fields_of r → result ≡ judged s.now r }
 {
-    let e = f.epoch.0;
-    if e == 0 {
-        return refused(Answer::Epoch);
+    if f.epoch == Epoch(0) {
+        return Err(Answer::Epoch);
     }
-    let clocks = s.clocks;
-    let kept = clock_from(clocks, f.sender);
-    if e <= kept.0 {
-        return refused(Answer::Repeat);
+    if f.epoch <= clock_from(s, f.sender) {
+        return Err(Answer::Repeat);
     }
-    Move {
-        answer: Answer::Taken,
-        place: Place(0),
-    }
+    Ok(Place(0))
 }
 
 // "4 propose now"
-pub fn judge_propose(s: State, f: Fields) -> Move
-    requires { (well_shaped s ≡ true) × (f.kind ≡ propose_now) }
-    ensures { (r : List ℕ) → f ≡ fields_of r → result ≡ judged s r }
+pub fn judge_propose(s: &State, f: &Fields) -> Result<Place, Answer>
+    requires nodes { 0 < s.now.n }
+    requires kind { f.now.kind ≡ propose_now }
+    ensures { (r : List ℕ) → f.now ≡ fields_of r → result ≡ judged s.now r }
 {
-    let e = s.local.0;
-    if TOP_EPOCH <= e {
-        return refused(Answer::Epoch);
+    if TOP_EPOCH <= s.local {
+        return Err(Answer::Epoch);
     }
-    let name = f.name;
-    if zero_name(name) {
-        return refused(Answer::Name);
+    if bad_name(s, &f.name) {
+        return Err(Answer::Name);
     }
-    let held = find(s, name).place;
-    if held.0 <= s.count {
-        return refused(Answer::Name);
+    let parent = freshest(s);
+    if s.local <= parent.epoch {
+        return Err(Answer::Order);
     }
-    let top = freshest(s);
-    let parent = top.place;
-    if e <= top.epoch.0 {
-        return refused(Answer::Order);
+    if s.own != proposer(s, s.local) {
+        return Err(Answer::Turn);
     }
-    if s.own.0 != e % s.n {
-        return refused(Answer::Turn);
-    }
-    if s.proposed.0 == e {
-        return refused(Answer::Repeat);
+    if s.proposed == s.local {
+        return Err(Answer::Repeat);
     }
     if CAPACITY <= s.count {
-        return refused(Answer::Full);
+        return Err(Answer::Full);
     }
-    Move {
-        answer: Answer::Taken,
-        place: parent,
-    }
+    Ok(parent.place)
 }
 
 // "5 cast a vote now"
-pub fn judge_cast(s: State, f: Fields) -> Move
-    requires { (well_shaped s ≡ true) × (f.kind ≡ cast_now) }
-    ensures { (r : List ℕ) → f ≡ fields_of r → result ≡ judged s r }
+pub fn judge_cast(s: &State) -> Result<Place, Answer>
+    ensures { (r : List ℕ) → kind_of r ≡ cast_now → result ≡ judged s.now r }
 {
-    let block = ballot(s);
-    if s.count < block.0 {
-        return refused(Answer::Nothing);
-    }
-    Move {
-        answer: Answer::Taken,
-        place: block,
-    }
+    ballot(s).ok_or(Answer::Nothing)
 }
 
 // "6 the minute is up"
-pub fn judge_minute(s: State, f: Fields) -> Move
-    requires { (well_shaped s ≡ true) × (f.kind ≡ minute_up) }
-    ensures { (r : List ℕ) → f ≡ fields_of r → result ≡ judged s r }
+pub fn judge_minute(s: &State) -> Result<Place, Answer>
+    ensures { (r : List ℕ) → kind_of r ≡ minute_up → result ≡ judged s.now r }
 {
-    let e = s.local.0;
-    if TOP_EPOCH <= e {
-        return refused(Answer::Epoch);
+    if TOP_EPOCH <= s.local {
+        return Err(Answer::Epoch);
     }
-    let clocks = s.clocks;
-    let kept = clock_from(clocks, s.own);
-    if e < kept.0 {
-        return refused(Answer::Repeat);
+    if s.local < clock_from(s, s.own) {
+        return Err(Answer::Repeat);
     }
-    Move {
-        answer: Answer::Taken,
-        place: Place(0),
-    }
+    Ok(Place(0))
 }

@@ -1,5 +1,5 @@
 -- Records played one after the other: what a loop keeps of its state, and the final names while the kept place stays. Assumes nothing.
-use Prim.Native.Nat.{ℕ, suc, ◌<◌}
+use Prim.Native.Nat.{ℕ, suc, ◌≤◌, ◌<◌}
 use mathlib.Core.Bool.{true}
 use mathlib.Core.List.{List}
 use mathlib.Core.Path.{◌≡◌, sym, ap, subst, ◌∙◌}
@@ -12,12 +12,16 @@ use Rattle.pala.specs.Lists.{final_names}
 use Rattle.pala.specs.Shape.{well_shaped}
 use Rattle.pala.specs.Step.{Outcome, step, room}
 use Rattle.pala.proofs.Grown.{Grown, grown_same, rows_settled}
-use Rattle.pala.proofs.Shapes.{shaped-kept}
+use Rattle.pala.proofs.Shapes.{shaped-kept, shaped-count}
 use Rattle.pala.proofs.Moves.{Stepped, refused, took}
 use Rattle.pala.proofs.Keeps.{size-shaped, did_grows, step-shaped, step-places}
 use Rattle.pala.proofs.Calls.{step_is, step_stepped}
-use Rattle.pala.proofs.Finals.{names_to, finals_are}
+use Rattle.pala.proofs.Finals.{names_to, names_le, finals_are}
 use Rattle.pala.proofs.Demand.Onward.{grown_names}
+
+-- a well-shaped state has no more final names than the table has places
+pub names_few : (s : State) → well_shaped s ≡ true → length (final_names s) ≤ capacity
+names_few s h = omega (arith, ap length (finals_are s), names_le (rows s) s.kept.0, shaped-kept s h, shaped-count s h)
 
 -- a state to go on from: its 65 rows and its shape
 pub record Playable (s : State) : Type 0 where

@@ -6,7 +6,7 @@ use native.Mathlib.Decide.{dec_le}
 use native.Mathlib.Nat.{add-zero, suc-mul}
 use native.Mathlib.Omega.{arith}
 use lib.ListN.{length, take, drop, length-append, length-drop, drop_of_length-le}
-use lib.Seq.{take-append-le, drop-append-le, drop-drop, take_all}
+use lib.Seq.{take-append-le, drop-append-le, take_all, take_at, drop_at}
 use Rattle.table.specs.declared.State.{State}
 use Rattle.pala.specs.Record.{record_bytes}
 use Rattle.pala.specs.Run.{cut_in, cut, stretches, played, lent}
@@ -91,28 +91,26 @@ part_cut d whole size e =
       )
     ]
 
--- the part that code lends of a slice, `&bytes[from..from + size]`
-abbrev pub part : List ℕ → ℕ → ℕ → List ℕ
-part bytes from size = take (from + size - from) (drop from bytes)
+-- a chunk that `chunks` hands on of what is left, and the rest
+pub record Chunk (whole : ℕ) (left chunk rest : List ℕ) : Type 0 where
+  pub parts : left ≡ chunk ++ rest
+  pub long : length chunk ≡ min whole (length left)
+  pub some : 0 < length left
 
--- the stretch at an index, and then those of what is left after it
-pub next_cut :
-    (whole : ℕ) → 1 ≤ whole → (input : List ℕ) (from size : ℕ) → from < length input → size ≡ min (length input - from) whole
-    → cut whole (drop from input) ≡ part input from size ∷ cut whole (drop (from + size) input)
-next_cut whole some input from size l e =
-    let left : length (drop from input) ≡ length input - from = length-drop from input in
-    let same : size ≡ min (length (drop from input)) whole = omega arith in
-    let long : size ≡ from + size - from = omega arith in
-    let parts = part_cut (drop from input) whole size same in
-    cut_more whole some (drop from input) (omega arith)
-    ∙ ap (λ (x : List ℕ). x ∷ cut whole (drop whole (drop from input))) (parts.0 ∙ ap (λ (n : ℕ). take n (drop from input)) long)
-    ∙ ap (λ (x : List ℕ). part input from size ∷ cut whole x) (parts.1 ∙ drop-drop size from input)
+-- it is the first stretch of what is left
+pub next_chunk : {whole : ℕ} {left chunk rest : List ℕ} → 1 ≤ whole → Chunk whole left chunk rest → cut whole left ≡ chunk ∷ cut whole rest
+next_chunk {whole} {left} {chunk} {rest} some c =
+    let ends = part_cut left whole (length chunk) (omega (arith, c.long)) in
+    let first : take whole left ≡ chunk = ends.0 ∙ ap (take (length chunk)) c.parts ∙ take_at chunk rest (length chunk) refl in
+    let after : drop whole left ≡ rest = ends.1 ∙ ap (drop (length chunk)) c.parts ∙ drop_at chunk rest (length chunk) refl in
+    cut_more whole some left c.some ∙ ap (λ (x : List ℕ). x ∷ cut whole (drop whole left)) first ∙ ap (λ (x : List ℕ). chunk ∷ cut whole x) after
+
+-- nothing left, no stretch
+pub cut_end : (whole : ℕ) → 1 ≤ whole → (left : List ℕ) → length left ≡ 0 → cut whole left ≡ []
+cut_end whole some [] e = cut_none whole some
+cut_end whole some (x ∷ left) e = absurd (omega arith)
 
 -- ---- those of 96 bytes
-
-pub stretches_none : stretches [] ≡ []
-unfolding stretches
-stretches_none = cut_none record_bytes (omega arith)
 
 -- whole records, and then the rest
 pub stretches-append :
@@ -124,28 +122,20 @@ pub stretches-count : (bytes : List ℕ) → length (stretches bytes) ≡ (lengt
 unfolding stretches
 stretches-count bytes = let counted = cut-count record_bytes (omega arith) bytes in omega (arith, counted.0, counted.1)
 
-pub next_stretch :
-    (input : List ℕ) (from size : ℕ) → from < length input → size ≡ min (length input - from) record_bytes
-    → stretches (drop from input) ≡ part input from size ∷ stretches (drop (from + size) input)
-unfolding stretches
-next_stretch input from size l e = next_cut record_bytes (omega arith) input from size l e
-
 -- ---- one record
 
--- playing on from after a record is playing on from before it
-pub played_next :
-    (records : List ℕ) (from : ℕ) (t u : State) → from + record_bytes ≤ length records → u ≡ (step t (part records from record_bytes) lent).state
-    → played u (stretches (drop (from + record_bytes) records)) ≡ played t (stretches (drop from records))
-unfolding played
-played_next records from t u l e =
-    ap (λ (x : State). played x (stretches (drop (from + record_bytes) records))) e
-    ∙ ap (λ (x : List (List ℕ)). played t x) (sym (next_stretch records from record_bytes (omega arith) (omega arith)))
+-- playing on from after a chunk is playing on from before it
+pub played_chunk :
+    (t : State) {u : State} {left chunk rest : List ℕ} → Chunk record_bytes left chunk rest → u ≡ (step t chunk lent).state
+    → played u (stretches rest) ≡ played t (stretches left)
+unfolding played stretches
+played_chunk t {u} {left} {chunk} {rest} c e =
+    ap (λ (x : State). played x (stretches rest)) e ∙ ap (λ (x : List (List ℕ)). played t x) (sym (next_chunk (omega arith) c))
 
--- past the end nothing is left to play
-pub played_end : (records : List ℕ) (from : ℕ) (t : State) → length records ≤ from → t ≡ played t (stretches (drop from records))
-unfolding played
-played_end records from t l =
-    ap (λ (x : List (List ℕ)). played t x) (sym (ap (λ (x : List ℕ). stretches x) (drop_of_length-le records {i = from} l) ∙ stretches_none))
+-- with nothing left nothing is played
+pub played_over : (t : State) (left : List ℕ) → length left ≡ 0 → played t (stretches left) ≡ t
+unfolding played stretches
+played_over t left e = ap (λ (x : List (List ℕ)). played t x) (cut_end record_bytes (omega arith) left e)
 
 -- ---- one piece after another
 

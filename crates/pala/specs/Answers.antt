@@ -1,5 +1,5 @@
 -- 01, "Answer numbers".
-use Rattle.std.specs.Prelude.{ℕ, ◌+◌, ◌%◌, Bool, not, ◌&&◌, ◌||◌, List, [], ◌∷◌, eqb, ltb, leb, length}
+use Rattle.std.specs.Prelude.{ℕ, ◌+◌, ◌%◌, Bool, not, ◌&&◌, ◌||◌, List, [], ◌∷◌, Result, Ok, Err, eqb, ltb, leb, length}
 use Rattle.table.specs.declared.Answer.{Answer}
 use Rattle.table.specs.declared.Block.{Block}
 use Rattle.table.specs.declared.State.{State}
@@ -34,6 +34,11 @@ number Answer.Setup = 15
 unfoldable pub taken : Answer → Bool
 unfolding number
 taken a = eqb (number a) 0
+
+-- what an answer is as a Result: what is handed back where it is 0, else the refusal
+unfoldable pub answered : {A : Type 0} → Answer → A → Result A Answer
+unfolding taken pick
+answered a x = pick (taken a) (Ok x) (Err a)
 
 -- "record or out buffer isn't 96 bytes"
 unfoldable pub bad_length : List ℕ → List ℕ → Bool

@@ -1,3 +1,4 @@
 -- What the proofs of this crate cite.
 pub mod Laws
 pub mod Determined
+pub mod Numbers

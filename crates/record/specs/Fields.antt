@@ -1,7 +1,7 @@
 -- A record's fields as one value, each by the definition that `pala` gives of it.
-use Rattle.std.specs.Prelude.{ℕ, false, List, replicate}
-use Rattle.table.specs.Rows.{name_bytes, payload_bytes}
-use Rattle.pala.specs.Record.{kind_of, sender_of, epoch_of, name_of, parent_name_of, payload_of, unused_zero}
+use Rattle.std.specs.Prelude.{ℕ, List, Option, Some, None, eqb, length}
+use Rattle.table.specs.Scan.{pick}
+use Rattle.pala.specs.Record.{record_bytes, kind_of, sender_of, epoch_of, name_of, parent_name_of, payload_of, unused_zero}
 use Rattle.record.specs.declared.Fields.{Fields}
 
 -- the fields of a record of 96 bytes; `clean`: "Fields a kind doesn't use are zero"
@@ -18,15 +18,7 @@ fields_of r =
       clean = unused_zero r;
     }
 
--- what stands for the fields of a record of another length
-unfoldable pub no_fields : Fields
-no_fields =
-    record {
-      name = replicate name_bytes 0;
-      parent = replicate name_bytes 0;
-      payload = replicate payload_bytes 0;
-      epoch = record { 0 = 0 };
-      sender = record { 0 = 0 };
-      kind = 0;
-      clean = false;
-    }
+-- the fields of a record, none where it isn't 96 bytes
+unfoldable pub fields_in : List ℕ → Option Fields
+unfolding pick fields_of
+fields_in r = pick (eqb (length r) record_bytes) (Some (fields_of r)) None

@@ -3,22 +3,17 @@
 
 #![tactic(auto)]
 
-mod copy;
-mod filler;
 pub mod kinds;
-mod reading;
-mod writing;
 
-ghost use Rattle.std.specs.Prelude.{◌≡◌, ◌%◌, eqb, length};
+ghost use Rattle.std.specs.Prelude.{◌≡◌, ◌+◌, ◌≤◌, ◌%◌, ◌||◌, eqb, length, take, drop};
+ghost use Rattle.table.specs.Bytes.{zeros};
 ghost use Rattle.table.specs.Scan.{pick};
-ghost use Rattle.pala.specs.Record.{message, record_bytes};
-ghost use Rattle.record.specs.Fields.{fields_of, no_fields};
+ghost use Rattle.pala.specs.Record.{message, record_bytes, unused_zero};
+ghost use Rattle.record.specs.Fields.{fields_in};
 
-use copy::put;
-use filler::{name_fits, payload_fits, uses_epoch, uses_name, uses_parent, uses_payload};
-use reading::{epoch_from, name_from, payload_from, wide};
+use kinds::Kind;
+use table::names::zeros;
 use table::{Epoch, NAME_BYTES, NodeNo, PAYLOAD_BYTES};
-use writing::head;
 
 // "The 96-byte record"
 pub const RECORD_BYTES: usize = 96;
@@ -29,8 +24,6 @@ const KIND_AT: usize = 0;
 const SENDER_AT: usize = 1;
 // "2 and 3 zero"
 const SPARE_AT: usize = 2;
-// The second of the two.
-const SPARE_TOO_AT: usize = 3;
 // "4 to 7 epoch (low byte first)"
 const EPOCH_AT: usize = 4;
 // "8 to 39 name"
@@ -40,83 +33,90 @@ const PARENT_AT: usize = 40;
 // "72 to 95 payload"
 const PAYLOAD_AT: usize = 72;
 
-// What the epoch's second byte counts for.
-const SECOND: u32 = 256;
-// Its third.
-const THIRD: u32 = 65536;
-// Its fourth.
-const FOURTH: u32 = 16777216;
-
 // What a record says; `clean` where bytes 2 and 3 and the fields that its kind does not use are zero.
-#[derive(Clone, Copy)]
+// `kind` stays a number: `write` promises the bytes of any, and row 4 is told from a record's.
+#[derive(Clone, Copy, PartialEq, Eq)]
 pub struct Fields {
-    pub name: [u8; 32],
-    pub parent: [u8; 32],
-    pub payload: [u8; 24],
+    pub name: [u8; NAME_BYTES],
+    pub parent: [u8; NAME_BYTES],
+    pub payload: [u8; PAYLOAD_BYTES],
     pub epoch: Epoch,
     pub sender: NodeNo,
     pub kind: u32,
     pub clean: bool,
 }
 
-// What stands for the fields of a record of another length.
-fn no_fields() -> Fields
-    ensures { result ≡ no_fields }
+// The N bytes from an index on: each field has its own.
+fn part<const N: usize>(rec: &[u8], at: usize) -> [u8; N]
+    requires { at + N ≤ length rec.now }
+    ensures { result ≡ take N (drop at rec.now) }
 {
-    Fields {
-        name: [0; NAME_BYTES as usize],
-        parent: [0; NAME_BYTES as usize],
-        payload: [0; PAYLOAD_BYTES as usize],
-        epoch: Epoch(0),
-        sender: NodeNo(0),
-        kind: 0,
-        clean: false,
-    }
+    let mut bytes = [0; N];
+    bytes.copy_from_slice(&rec[at..at + N]);
+    bytes
 }
 
-// The fields of a record of 96 bytes, each read once.
-pub fn fields_at(rec: &[u8]) -> Fields
-    ensures { result ≡ pick (eqb (length rec.now) record_bytes) (fields_of rec.now) no_fields }
+// A field is used, or zero.
+fn fits(used: bool, field: &[u8]) -> bool
+    ensures { result ≡ (used || zeros field.now) }
+{
+    used || zeros(field)
+}
+
+// "Fields a kind doesn't use are zero"; a number that is no kind uses none. Joined by `&`: with `&&` each join asks the proof for a case of its own (tried).
+fn unused_zero(rec: &[u8]) -> bool
+    requires { length rec.now ≡ record_bytes }
+    ensures { result ≡ unused_zero rec.now }
+{
+    let kind = Kind::try_from(u32::from(rec[KIND_AT]));
+    zeros(&rec[SPARE_AT..EPOCH_AT])
+        & fits(kind.is_ok_and(Kind::uses_epoch), &rec[EPOCH_AT..NAME_AT])
+        & fits(kind.is_ok_and(Kind::uses_name), &rec[NAME_AT..PARENT_AT])
+        & fits(
+            kind.is_ok_and(Kind::uses_parent),
+            &rec[PARENT_AT..PAYLOAD_AT],
+        )
+        & fits(kind.is_ok_and(Kind::uses_payload), &rec[PAYLOAD_AT..])
+}
+
+// The fields of a record of 96 bytes; none of any other length.
+#[tactic(auto, unfolding(crate::specs::Fields::fields_in, table::specs::Scan::pick))]
+pub fn fields_at(rec: &[u8]) -> Option<Fields>
+    ensures { result ≡ fields_in rec.now }
 {
     if rec.len() != RECORD_BYTES {
-        return no_fields();
+        return None;
     }
-    let kind = wide(rec[KIND_AT]);
-    let sender = wide(rec[SENDER_AT]);
-    let epoch = epoch_from(rec);
-    let name = name_from(rec, NAME_AT);
-    let parent = name_from(rec, PARENT_AT);
-    let payload = payload_from(rec);
-    let clean = (rec[SPARE_AT] == 0)
-        & (rec[SPARE_TOO_AT] == 0)
-        & (uses_epoch(kind) | (epoch.0 == 0))
-        & name_fits(uses_name(kind), name)
-        & name_fits(uses_parent(kind), parent)
-        & payload_fits(uses_payload(kind), payload);
-    Fields {
-        name: name,
-        parent: parent,
-        payload: payload,
-        epoch: epoch,
-        sender: NodeNo(sender),
-        kind: kind,
-        clean: clean,
-    }
+    Some(Fields {
+        name: part(rec, NAME_AT),
+        parent: part(rec, PARENT_AT),
+        payload: part(rec, PAYLOAD_AT),
+        epoch: Epoch(u32::from_le_bytes(part(rec, EPOCH_AT))),
+        sender: NodeNo(u32::from(rec[SENDER_AT])),
+        kind: u32::from(rec[KIND_AT]),
+        clean: unused_zero(rec),
+    })
+}
+
+// The lowest byte of a number.
+fn low_byte(x: u32) -> u8
+    ensures { result ≡ x % 256 }
+{
+    let [low, ..] = x.to_le_bytes();
+    low
 }
 
 // Writes the record of these fields into a buffer of 96 bytes; a buffer of another length stays as it was.
-pub fn write(out: &mut [u8], f: Fields)
-    ensures { out.new ≡ pick (eqb (length out.old) record_bytes) (message (f.kind % 256) (f.sender.0 % 256) f.epoch.0 f.name f.parent f.payload) out.old }
+#[tactic(auto, unfolding(table::specs::Scan::pick))]
+pub fn write(out: &mut [u8], f: &Fields)
+    ensures { out.new ≡ pick (eqb (length out.old) record_bytes) (message (f.now.kind % 256) (f.now.sender.0 % 256) f.now.epoch.0 f.now.name f.now.parent f.now.payload) out.old }
 {
     if out.len() != RECORD_BYTES {
         return;
     }
-    let first = head(f.kind, f.sender, f.epoch);
-    let name = f.name;
-    let parent = f.parent;
-    let payload = f.payload;
-    put(out, KIND_AT, &first);
-    put(out, NAME_AT, &name);
-    put(out, PARENT_AT, &parent);
-    put(out, PAYLOAD_AT, &payload);
+    out[KIND_AT..EPOCH_AT].copy_from_slice(&[low_byte(f.kind), low_byte(f.sender.0), 0, 0]);
+    out[EPOCH_AT..NAME_AT].copy_from_slice(&f.epoch.0.to_le_bytes());
+    out[NAME_AT..PARENT_AT].copy_from_slice(&f.name);
+    out[PARENT_AT..PAYLOAD_AT].copy_from_slice(&f.parent);
+    out[PAYLOAD_AT..].copy_from_slice(&f.payload);
 }

@@ -11,7 +11,7 @@ enough_one : (κs : _) (a : _) (r q : _) (s t : _) → enough.Post κs a r s →
 enough_one κs a r q s t = one-outcome
 
 columns_of_one : (κs : _) (a : _) (r q : _) (s t : _) → columns_of.Post κs a r s → columns_of.Post κs a q t → r ≡ q
-columns_of_one κs a r q s t = one-outcome
+columns_of_one κs a r q s t x y = one-outcome x.0 y.0
 
 freshest_one : (κs : _) (a : _) (r q : _) (s t : _) → freshest.Post κs a r s → freshest.Post κs a q t → r ≡ q
 freshest_one κs a r q s t = one-outcome

@@ -1,99 +1,88 @@
 -- The one scan that finds the freshest block and the freshest normal one: what holds before each turn. Assumes nothing.
-use Prim.Native.Nat.{ℕ, ◌-◌, ◌≤◌, ◌<◌}
-use mathlib.Core.Bool.{Bool, true, false, ◌&&◌}
-use mathlib.Core.Path.{◌≡◌, sym, ap, ◌∙◌}
-use native.Mathlib.Omega.{arith}
-use borrow.Author.Tests.{leb-true, leb-false}
-use lib.Dec.{ltb, leb}
-use Rattle.table.specs.declared.Epoch.{Epoch}
-use Rattle.table.specs.declared.Place.{Place}
-use Rattle.table.specs.Scan.{pick}
-use Rattle.table.proofs.Laws.{pick-case, not_both}
-use Rattle.pala.proofs.Tests.{and_l, and_r, nand}
+use Rattle.std.proofs.Common.{ℕ, zero, suc, ◌≡◌, ◌-◌, ◌<◌, ◌≤◌, Bool, true, false, ◌&&◌, ◌||◌, eqb, ltb, leb, refl, sym, ap, ap₂, ◌∙◌, arith}
+use Rattle.std.proofs.lemmas.Bool.{ne_eqb, leb-true, leb-false}
+use Rattle.pala.proofs.Tests.{and_l, and_r, and_both}
+use Rattle.table.specs.Scan.{pick, highest}
+use Rattle.table.proofs.Laws.{fails, not_both, pick-case}
 use Rattle.rules.specs.declared.Top.{Top}
 use Rattle.rules.specs.Columns.{firm_by, freshest_by, normal_by, freshest_normal_by}
-use Rattle.rules.specs.Standing.{tops_by}
-use Rattle.rules.proofs.Searches.{top_at, against, against_turn, joined-start, joined_passed, joined_end}
+use Rattle.rules.specs.Standing.{top_at, tops_by}
+use Rattle.rules.proofs.Downward.{firm_step}
+use Rattle.rules.proofs.Searches.{Best, best_start, best_passed, best_taken, best_end}
 
--- nothing has won
-abbrev pub none : Top
-none = record { place = record { 0 = 0 }; epoch = record { 0 = 0 } }
+pick_same : (b : Bool) (x : ℕ) → pick b x x ≡ x
+unfolding pick
+pick_same true x = refl
+pick_same false x = refl
 
--- what won, or the genesis where it isn't above its epoch
-abbrev pub won_by : ℕ → Top → ℕ
-won_by root best = pick (ltb root best.epoch.0) best.place.0 0
+nand_l : (a b : Bool) → (a && b) ≡ false → b ≡ true → a ≡ false
+nand_l a b h y = fails a (λ x. not_both (and_both a b x y) h)
+
+-- whether 0 passes changes nothing: it is where the search starts
+highest_same : (f g : ℕ → Bool) (rank : ℕ → ℕ) → ((p : ℕ) → 0 < p → f p ≡ g p) → (k : ℕ) → highest k f rank ≡ highest k g rank
+unfolding highest
+highest_same f g rank e zero = refl
+highest_same f g rank e (suc zero) = pick_same (f 0 && ltb (rank 0) (rank 0)) 0 ∙ sym (pick_same (g 0 && ltb (rank 0) (rank 0)) 0)
+highest_same f g rank e (suc (suc k)) =
+    ap₂ (λ (b : Bool) (w : ℕ). pick (b && ltb (rank w) (rank (suc k))) (suc k) w) (e (suc k) (omega arith)) (highest_same f g rank e (suc k))
 
 module _ (up epoch : ℕ → ℕ) (mark : ℕ → Bool) where
-  abbrev firmly : ℕ → Bool
+  abbrev pub firmly : ℕ → Bool
   firmly p = firm_by up mark p
 
-  abbrev both : ℕ → Bool
-  both p = firm_by up mark p && normal_by up epoch p
+  -- the genesis stands where there is no firm normal block
+  abbrev pub lately : ℕ → Bool
+  lately p = firm_by up mark p && (eqb p 0 || normal_by up epoch p)
 
-  -- the places from k on are passed; of them `fresh` and `last` have won, and a normal block is no later than the freshest
+  root-firm : firm_by up mark 0 ≡ true
+  root-firm = firm_step up mark 0
+
+  -- the places from k on are passed
   pub record Scanned (size k : ℕ) (fresh last : Top) : Type 0 where
-    pub freshly : freshest_by size up epoch mark ≡ against firmly epoch k fresh
-    pub lately : freshest_normal_by size up epoch mark ≡ against both epoch k last
-    pub order : last.epoch.0 ≤ fresh.epoch.0
+    pub freshest : Best firmly epoch size k fresh
+    pub latest : Best lately epoch size k last
 
-  pub scanned_start : (size k : ℕ) → k ≡ size → Scanned size k none none
-  unfolding freshest_by freshest_normal_by
-  scanned_start size k e =
-      record {
-        freshly = joined-start firmly epoch size 0 ∙ ap (λ (j : ℕ). against firmly epoch j none) (sym e);
-        lately = joined-start both epoch size 0 ∙ ap (λ (j : ℕ). against both epoch j none) (sym e);
-        order = omega arith;
-      }
+  pub scanned_start : (size : ℕ) (root : Top) → root ≡ top_at epoch 0 → Scanned size size root root
+  scanned_start size root e =
+      rw e
+      (record {
+        freshest = best_start firmly epoch size root-firm;
+        latest = best_start lately epoch size (ap (λ (b : Bool). b && true) root-firm);
+      })
 
-  module _ {size k : ℕ} {fresh last : Top} (w : Scanned size k fresh last) where
-    -- a block that isn't firm, or is earlier than the freshest and isn't normal or earlier than the last normal one too, is passed over
-    pub scanned_passed : 1 < k
-        → (firm_by up mark (k - 1) ≡ true → (epoch (k - 1) < fresh.epoch.0) × (normal_by up epoch (k - 1) ≡ true → epoch (k - 1) < last.epoch.0))
-        → Scanned size (k - 1) fresh last
-    scanned_passed more h =
+  -- once all are passed
+  pub scanned_end : (size : ℕ) (fresh last : Top) → Scanned size 0 fresh last → record { fresh = fresh; normal = last } ≡ tops_by size up epoch mark
+  unfolding tops_by freshest_by freshest_normal_by
+  scanned_end size fresh last w =
+      let same = highest_same lately (λ p. firm_by up mark p && normal_by up epoch p) epoch (λ p h. ap (λ (b : Bool). firm_by up mark p && (b || normal_by up epoch p)) (ne_eqb p 0 (λ e. omega arith))) size in
+      let a = best_end firmly epoch size root-firm fresh w.freshest in
+      let b = best_end lately epoch size (ap (λ (b : Bool). b && true) root-firm) last w.latest ∙ ap (top_at epoch) same in
+      λ i. record { fresh = a i; normal = b i }
+
+  -- a turn looks at k - 1, which may be fresher than the freshest, and the latest normal block
+  module _ (size k : ℕ) (fresh last here : Top) (w : Scanned size k fresh last) (more : 0 < k) (least : k ≤ size) (e : here ≡ top_at epoch (k - 1)) (fresher later : Bool)
+      (f : fresher ≡ leb fresh.epoch.0 (epoch (k - 1))) (l : later ≡ (leb last.epoch.0 (epoch (k - 1)) && (eqb (k - 1) 0 || normal_by up epoch (k - 1)))) where
+    -- it isn't firm, or neither: both stay
+    pub scanned_passed : (firm_by up mark (k - 1) ≡ true → (fresher ≡ false) × (later ≡ false)) → Scanned size (k - 1) fresh last
+    scanned_passed h =
         record {
-          freshly = w.freshly ∙ joined_passed firmly epoch k fresh.place.0 fresh.epoch.0 more (λ y. (h y).0);
-          lately = w.lately ∙ joined_passed both epoch k last.place.0 last.epoch.0 more (λ y. (h (and_l (firm_by up mark (k - 1)) _ y)).1 (and_r (firm_by up mark (k - 1)) _ y));
-          order = w.order;
+          freshest = best_passed firmly epoch size k fresh more least w.freshest (λ y. leb-false _ _ (sym f ∙ (h y).0));
+          latest =
+              best_passed lately epoch size k last more least w.latest
+              (λ y. let b = and_l (firm_by up mark (k - 1)) _ y in leb-false _ _ (nand_l _ _ (sym l ∙ (h b).1) (and_r (firm_by up mark (k - 1)) _ y)));
         }
 
-    -- a block that is no earlier than the last normal one wins, being firm, by its epoch and by being normal
-    pub scanned_turn : (here : Top) (fresher next : Bool) → 1 < k → here ≡ top_at epoch (k - 1) → last.epoch.0 ≤ epoch (k - 1)
-        → fresher ≡ (firm_by up mark (k - 1) && leb fresh.epoch.0 (epoch (k - 1))) → next ≡ both (k - 1)
-        → Scanned size (k - 1) (pick fresher here fresh) (pick next here last)
-    scanned_turn here fresher next more e l a b =
-        record {
-          freshly = w.freshly ∙ against_turn firmly epoch k here fresh fresher more e (λ y. (and_l firm_here later (sym a ∙ y), leb-true _ _ (and_r firm_here later (sym a ∙ y)))) earlier;
-          lately = w.lately ∙ against_turn both epoch k here last next more e (λ y. (sym b ∙ y, l)) (λ n y. absurd (not_both y (sym b ∙ n)));
-          order = ordered;
-        }
-      where
-        firm_here : Bool
-        firm_here = firm_by up mark (k - 1)
-
-        later : Bool
-        later = leb fresh.epoch.0 (epoch (k - 1))
-
-        earlier : fresher ≡ false → firm_here ≡ true → epoch (k - 1) < fresh.epoch.0
-        earlier n f = leb-false fresh.epoch.0 (epoch (k - 1)) (nand firm_here later (sym a ∙ n) f)
-
-        here_is : here.epoch.0 ≡ epoch (k - 1)
-        here_is = ap (λ (t : Top). t.epoch.0) e
-
-        ordered : (pick next here last).epoch.0 ≤ (pick fresher here fresh).epoch.0
-        ordered =
-            pick-case (λ (t : Top). (pick next here last).epoch.0 ≤ t.epoch.0) fresher here fresh
-            (λ y. pick-case (λ (t : Top). t.epoch.0 ≤ here.epoch.0) next here last (λ _. omega arith) (λ _. omega (arith, here_is)))
-            (λ n. pick-case (λ (t : Top). t.epoch.0 ≤ fresh.epoch.0) next here last (λ y. omega (arith, here_is, earlier n (and_l firm_here (normal_by up epoch (k - 1)) (sym b ∙ y)))) (λ _. w.order))
-
-    -- once all are passed, what won is told against the genesis's epoch
-    pub scanned_end : (root : Epoch) (found normal : Place) → k ≤ 1 → root.0 ≡ epoch 0
-        → found ≡ record { 0 = won_by root.0 fresh } → normal ≡ record { 0 = won_by root.0 last }
-        → record { fresh = found; normal = normal } ≡ tops_by size up epoch mark
-    unfolding tops_by
-    scanned_end root found normal less e f n =
-        let a = w.freshly ∙ joined_end firmly epoch k fresh.place.0 fresh.epoch.0 less in
-        let b = w.lately ∙ joined_end both epoch k last.place.0 last.epoch.0 less in
-        let at-fresh = f ∙ ap (λ (x : ℕ). record { 0 = x }) (ap (λ (x : ℕ). won_by x fresh) e ∙ sym a) in
-        let at-normal = n ∙ ap (λ (x : ℕ). record { 0 = x }) (ap (λ (x : ℕ). won_by x last) e ∙ sym b) in
-        λ i. record { fresh = at-fresh i; normal = at-normal i }
+    -- it is firm: it takes the place of what it isn't below
+    pub scanned_won : firm_by up mark (k - 1) ≡ true → (fresh' last' : Top) → fresh' ≡ pick fresher here fresh → last' ≡ pick later here last → Scanned size (k - 1) fresh' last'
+    scanned_won y fresh' last' a b =
+        rw (a, b)
+        (record {
+          freshest =
+              pick-case (Best firmly epoch size (k - 1)) fresher here fresh
+              (λ t. rw e (best_taken firmly epoch size k fresh more least w.freshest y (leb-true _ _ (sym f ∙ t))))
+              (λ n. best_passed firmly epoch size k fresh more least w.freshest (λ _. leb-false _ _ (sym f ∙ n)));
+          latest =
+              pick-case (Best lately epoch size (k - 1)) later here last
+              (λ t. rw e (best_taken lately epoch size k last more least w.latest (and_both _ _ y (and_r _ _ (sym l ∙ t))) (leb-true _ _ (and_l _ _ (sym l ∙ t)))))
+              (λ n. best_passed lately epoch size k last more least w.latest (λ z. leb-false _ _ (nand_l _ _ (sym l ∙ n) (and_r (firm_by up mark (k - 1)) _ z))));
+        })

@@ -9,7 +9,6 @@ use table::{Epoch, Place};
 mod chains;
 mod clocks;
 pub mod columns;
-mod lookups;
 pub mod quorum;
 mod scans;
 pub mod steps;
@@ -23,6 +22,7 @@ pub struct Top {
 
 // What the five steps need of a state: the freshest block's epoch, the greater of the local epoch and the agreed clock,
 // the candidate, and whether the candidate descends from the kept final block and the kept one from it.
+// Both tests stand beside the candidate, and no enum in their place: the law `standing_shown` names each.
 #[derive(Clone, Copy)]
 pub struct Standing {
     pub fresh: Epoch,

@@ -7,7 +7,5 @@ ghost use Rattle.pala.specs.Counts.{quorum};
 pub fn enough(votes: u32, n: u32) -> bool
     ensures { result ≡ leb (quorum n) votes }
 {
-    let votes = votes as u64;
-    let nodes = n as u64;
-    3 * votes >= 2 * nodes
+    3 * u64::from(votes) >= 2 * u64::from(n)
 }

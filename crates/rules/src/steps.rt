@@ -2,52 +2,41 @@
 
 ghost use Rattle.std.specs.Prelude.{◌≡◌};
 ghost use Rattle.table.specs.Rows.{rows};
-ghost use Rattle.pala.specs.Rules.{ballot, freshest};
+ghost use Rattle.pala.specs.Rules.{freshest};
 ghost use Rattle.pala.specs.Steps.{fresh_epoch};
-ghost use Rattle.rules.specs.Standing.{standing_by};
+ghost use Rattle.rules.specs.Standing.{chosen, standing_by};
 
-use crate::chains::descends;
 use crate::clocks::clock_of;
 use crate::columns::{Columns, columns_of};
-use crate::lookups::{epoch_at, lower_at};
-use crate::scans::{ballot_of, tops_of};
 use crate::{Standing, Top};
-use table::{Epoch, Place, State};
+use table::{Place, State};
 
 // "Freshest: the firm block of highest epoch; of equals the lowest place."
-pub fn freshest(s: State) -> Top
-    ensures { result ≡ record { place = record { 0 = freshest s.n (rows s) }; epoch = record { 0 = fresh_epoch s } } }
+pub fn freshest(s: &State) -> Top
+    ensures { result ≡ record { place = record { 0 = freshest s.now.n (rows s.now) }; epoch = record { 0 = fresh_epoch s.now } } }
 {
-    let c = columns_of(s);
-    let tops = tops_of(&c.parents, &c.epochs, &c.marks, c.size);
-    let top = tops.fresh;
-    Top {
-        place: top,
-        epoch: epoch_at(&c.epochs, top),
-    }
+    columns_of(s).tops().fresh
 }
 
-// "the lowest place that may be voted for"; the size of the table where there is none
-pub fn ballot(s: State) -> Place
-    ensures { result ≡ record { 0 = ballot s.n (rows s) s.local.0 s.bar.0 s.voted.0 } }
+// "the lowest place that may be voted for"
+pub fn ballot(s: &State) -> Option<Place>
+    ensures { result ≡ chosen s.now }
 {
     let c = columns_of(s);
-    ballot_of(
-        &c.parents, &c.epochs, &c.marks, c.size, s.local, s.bar, s.voted,
-    )
+    (0..c.size).map(Place).find(|p| c.votable(s, *p))
 }
 
-// All that the five steps need, of a table's columns and of what stands beside it: whoever has the state makes them from it where it is.
-pub fn standing(c: Columns, clocks: [Epoch; 32], n: u32, local: Epoch, kept: Place) -> Standing
-    ensures { result ≡ standing_by c clocks n local.0 kept.0 }
+// All that the five steps need, of a table's columns and of what stands beside it in the state: its promise is of any columns.
+pub fn standing(c: &Columns, s: &State) -> Standing
+    ensures { result ≡ standing_by c.now s.now.clocks s.now.n s.now.local.0 s.now.kept.0 }
 {
-    let tops = tops_of(&c.parents, &c.epochs, &c.marks, c.size);
-    let candidate = lower_at(&c.parents, tops.normal);
+    let tops = c.tops();
+    let candidate = c.parent(tops.normal.place);
     Standing {
-        fresh: epoch_at(&c.epochs, tops.fresh),
-        clock: clock_of(clocks, n, local),
-        candidate: candidate,
-        forward: descends(&c.parents, candidate, kept),
-        back: descends(&c.parents, kept, candidate),
+        fresh: tops.fresh.epoch,
+        clock: clock_of(s),
+        candidate,
+        forward: c.descends(candidate, s.kept),
+        back: c.descends(s.kept, candidate),
     }
 }

@@ -1,27 +1,34 @@
 -- What the in-between forms have to do with the definitions of the shape, and the loops with their scans. Assumes nothing.
-use Prim.Native.Nat.{ℕ, zero, suc, ◌+◌, ◌%◌, ◌≤◌, ◌<◌, zero-le}
+use Prim.Native.Nat.{ℕ, zero, suc, ◌+◌, ◌-◌, ◌%◌, ◌≤◌, ◌<◌, zero-le}
 use mathlib.Core.Bool.{Bool, true, false, not, ◌&&◌, ◌||◌, and_assoc, and-true, true≢false}
 use mathlib.Core.List.{List, [], ◌∷◌, map}
 use mathlib.Core.Logic.{◌⊎◌, inl, inr, ⊎_elim}
 use mathlib.Core.Path.{◌≡◌, refl, sym, ap, ◌∙◌}
-use native.Mathlib.Decide.{dec_le, dec_lt, ℕ_discrete}
+use native.Mathlib.Decide.{ℕ_discrete}
+use native.Mathlib.Numerals.{add-one}
 use native.Mathlib.Omega.{arith}
 use borrow.Author.Count.{below_more}
-use borrow.Author.Tests.{ltb-true, leb-true, eqb-true, lt-ltb, le-ltb, le-leb, lt-leb, eq-eqb, ne_eqb, not-true}
+use borrow.Author.Tests.{ltb-true, leb-true, lt-ltb, le-leb, eq-eqb, ne_eqb, not-true}
+use Rattle.std.proofs.lemmas.Bool.Decides.{nat_tests}
 use lib.Dec.{ltb, leb, eqb}
-use lib.ListN.{length, get_or, set, get_or-map}
-use lib.Seq.{get_or-set_other, get_or-set_same}
+use Rattle.std.proofs.lemmas.List.FromFn.{get_or-range_with_len, length-range_with_len}
+use Rattle.std.proofs.lemmas.List.Folds.{list_any_at}
+use Rattle.std.specs.List.{list_all, list_any, range_with_len}
+use Rattle.std.proofs.lemmas.List.Recursion.{and_at, and_from_places}
+use lib.ListN.{length, drop, take, length-map, get_or, set, get_or-map, length-drop}
+use lib.Seq.{get_or-drop, get_or-take, length-take-le, get_or-set_other, get_or-set_same}
 use Rattle.table.specs.declared.Block.{Block}
 use Rattle.table.specs.declared.State.{State}
-use Rattle.table.specs.Scan.{all_below, lowest}
+use Rattle.std.proofs.Common.{Some, None}
+use Rattle.table.specs.Scan.{all_below, pick}
 use Rattle.table.specs.Bytes.{same, zeros}
 use Rattle.table.specs.Rows.{capacity, most_nodes, blank, rows, at, has_voter}
-use Rattle.table.proofs.Laws.{fails, not_both, same_test, all_below-at, all_below_all, lowest-is, lowest_none, lowest-le, lowest_hit, lowest_below, same_true, at_rows}
+use Rattle.table.proofs.Laws.{fails, not_both, same_test, all_below-at, all_below_all, same_true, at_rows, all_below_same}
 use Rattle.pala.specs.Counts.{top_epoch, block_epoch, nodes}
 use Rattle.pala.specs.Rules.{epoch_at}
 use Rattle.pala.specs.Shape.{voters_ok, block_ok, no_voters, is_blank, clocks_ok, well_shaped}
 use Rattle.pala.proofs.Shapes
-use Rattle.shape.specs.Parts.{in_order, row_ok, held_ok, unused_ok, apart, names_apart, key, next_like}
+use Rattle.shape.specs.Parts.{in_order, row_ok, held_ok, unused_ok, apart, names_apart, key}
 
 -- ---- scans
 
@@ -31,10 +38,16 @@ unfolding all_below
 all_below_front zero ok = sym (and-true (ok 0))
 all_below_front (suc k) ok = ap (λ (t : Bool). t && ok (suc k)) (all_below_front k ok) ∙ and_assoc (ok 0) (all_below k (λ i. ok (suc i))) (ok (suc k))
 
-pub zeros_below : (l : List ℕ) → zeros l ≡ all_below (length l) (λ i. eqb (get_or l i 0) 0)
-unfolding zeros all_below
-zeros_below [] = refl
-zeros_below (x ∷ l) = ap (λ (t : Bool). eqb x 0 && t) (zeros_below l) ∙ sym (all_below_front (length l) (λ i. eqb (get_or (x ∷ l) i 0) 0))
+-- a scan of the numbers in turn, and one by tests that answer alike
+range_below : (ok : ℕ → Bool) (p : ℕ) → list_all ok (range_with_len 0 p) ≡ all_below p ok
+range_below ok p =
+    let numbers = range_with_len 0 p in
+    let number : (i : ℕ) → i < p → ok (get_or numbers i 0) ≡ ok i = λ i l. ap ok (get_or-range_with_len 0 p i 0 l ∙ omega arith) in
+    same_test (list_all ok numbers) (all_below p ok)
+    (λ h. all_below_all p ok (λ i l. sym (number i l) ∙ and_at (list_all ok) ok refl (λ _ _. refl) numbers i 0 (omega (arith, length-range_with_len 0 p)) h))
+    (λ h.
+    and_from_places (list_all ok) ok refl (λ _ _. refl) numbers 0
+    (λ i l. let k : i < p = omega (arith, length-range_with_len 0 p) in number i k ∙ all_below-at p ok h i k))
 
 no_voters_below : (l : List Bool) → no_voters l ≡ all_below (length l) (λ i. not (get_or l i false))
 unfolding no_voters all_below
@@ -90,14 +103,8 @@ module _ (n up : ℕ) (b : Block) where
       (Shapes.and_both (ltb 0 e) (ltb e top_epoch) (lt-ltb 0 e (omega (arith, t.parent))) (lt-ltb e top_epoch t.epoch)))
       t.voters
 
--- a block whose parent isn't lower is not in order; of another its row and its parent's epoch tell
+-- of a block whose parent is lower its row and its parent's epoch tell
 module _ (n : ℕ) (t : List Block) (p : ℕ) (b : Block) (is : b ≡ at t p) where
-  pub row_up : p ≤ b.parent.0 → row_ok n t p ≡ false
-  unfolding row_ok
-  row_up l =
-      let no : ltb (at t p).parent.0 p ≡ false = ap (λ (x : Block). ltb x.parent.0 p) (sym is) ∙ le-ltb b.parent.0 p l in
-      ap (λ (x : Bool). x && in_order n (epoch_at t (at t p).parent.0) (at t p)) no
-
   pub row_order : (e : ℕ) → e ≡ epoch_at t b.parent.0 → b.parent.0 < p → row_ok n t p ≡ in_order n e b
   unfolding row_ok
   row_order e up l =
@@ -130,8 +137,11 @@ module _ (s : State) where
       all_below_all (suc s.count) (λ i. eqb i 0 || row_ok s.n (rows s) i)
       (λ p m. Shapes.or_of (eqb p 0) (row_ok s.n (rows s) p) (λ e. h p (omega (arith, positive p e)) (omega arith)))
 
-  pub held_fails : (p : ℕ) → 0 < p → p ≤ s.count → row_ok s.n (rows s) p ≡ false → held_ok s ≡ false
-  held_fails p l m f = fails (held_ok s) (λ h. not_both (held_at h p l m) f)
+  pub held-is : list_all (λ p. eqb p 0 || row_ok s.n (rows s) p) (range_with_len 0 (s.count + 1)) ≡ held_ok s
+  unfolding held_ok
+  held-is =
+      let ok : ℕ → Bool = λ p. eqb p 0 || row_ok s.n (rows s) p in
+      range_below ok (s.count + 1) ∙ ap (λ (k : ℕ). all_below k ok) (add-one s.count)
 
   pub unused_at : unused_ok s ≡ true → (p : ℕ) → (p ≡ 0) ⊎ (s.count < p) → p ≤ capacity → is_blank (get_or s.blocks p blank) ≡ true
   unfolding unused_ok
@@ -154,51 +164,33 @@ module _ (s : State) where
   pub unused_fails : (p : ℕ) → (p ≡ 0) ⊎ (s.count < p) → p ≤ capacity → is_blank (get_or s.blocks p blank) ≡ false → unused_ok s ≡ false
   unused_fails p u l f = fails (unused_ok s) (λ h. not_both (unused_at h p u l) f)
 
+  -- the places above the number of blocks, as a part of the array
+  pub unused_rest : length s.blocks ≡ suc capacity → is_blank (get_or s.blocks 0 blank) ≡ true → list_all is_blank (drop (s.count + 1) s.blocks) ≡ unused_ok s
+  unused_rest held root =
+      let rest = drop (s.count + 1) s.blocks in
+      same_test (list_all is_blank rest) (unused_ok s)
+      (λ h.
+      unused_all
+      (λ p u l.
+      ⊎_elim (λ z. ap (λ (k : ℕ). is_blank (get_or s.blocks k blank)) z ∙ root)
+      (λ z.
+      let e : s.count + 1 + (p - (s.count + 1)) ≡ p = omega arith in
+      ap (λ (k : ℕ). is_blank (get_or s.blocks k blank)) (sym e)
+      ∙ ap is_blank (sym (get_or-drop (s.count + 1) s.blocks (p - (s.count + 1)) blank))
+      ∙ and_at (list_all is_blank) is_blank refl (λ _ _. refl) rest (p - (s.count + 1)) blank (omega (arith, length-drop (s.count + 1) s.blocks)) h) u))
+      (λ h.
+      and_from_places (list_all is_blank) is_blank refl (λ _ _. refl) rest blank
+      (λ i m. ap is_blank (get_or-drop (s.count + 1) s.blocks i blank) ∙ unused_at h (s.count + 1 + i) (inr (omega arith)) (omega (arith, length-drop (s.count + 1) s.blocks))))
+
 -- ---- names
 
 -- names that have not one key are not alike
-pub keys_differ : (a b : List ℕ) → (key a ≡ key b → ⊥) → same a b ≡ false
+keys_differ : (a b : List ℕ) → (key a ≡ key b → ⊥) → same a b ≡ false
 keys_differ a b f = fails (same a b) (λ h. f (ap key (same_true a b h)))
 
 pub key-at : (s : State) (keys : List ℕ) → keys ≡ map (λ b. key b.name) s.blocks → (i : ℕ) → get_or keys i 0 ≡ key (get_or s.blocks i blank).name
 unfolding key blank
 key-at s keys e i = ap (λ (l : List ℕ). get_or l i 0) e ∙ get_or-map (λ b. key b.name) s.blocks i blank
-
-module _ (keys : List ℕ) (from p : ℕ) where
-  like : ℕ → Bool
-  like q = leb from q && eqb (get_or keys q 0) (get_or keys p 0)
-
-  unlike : (i : ℕ) → (get_or keys i 0 ≡ get_or keys p 0 → ⊥) → like i ≡ false
-  unfolding like
-  unlike i f = fails (like i) (λ h. f (eqb-true (get_or keys i 0) (get_or keys p 0) (Shapes.and_r (leb from i) (eqb (get_or keys i 0) (get_or keys p 0)) h)))
-
-  -- the first place from `from` on that has p's key, p itself at the last
-  pub next_is : (w : ℕ) → from ≤ w → w ≤ p → get_or keys w 0 ≡ get_or keys p 0 → ((i : ℕ) → from ≤ i → i < w → get_or keys i 0 ≡ get_or keys p 0 → ⊥) → next_like keys from p ≡ w
-  unfolding next_like like
-  next_is w l m e below =
-      let before : (i : ℕ) → i < w → like i ≡ false =
-      λ i k. elim (dec_le from i) [ yes y ↦ unlike i (below i y k) | no y ↦ ap (λ (t : Bool). t && eqb (get_or keys i 0) (get_or keys p 0)) (lt-leb from i (omega arith)) ] in
-      elim (dec_lt w p) [
-        | yes y ↦ lowest-is p like w y (Shapes.and_both (leb from w) (eqb (get_or keys w 0) (get_or keys p 0)) (le-leb from w l) (eq-eqb (get_or keys w 0) (get_or keys p 0) e)) before
-        | no y ↦ lowest_none p like (λ i k. before i (omega arith)) ∙ omega arith
-      ]
-
-  pub next_le : next_like keys from p ≤ p
-  unfolding next_like like
-  next_le = lowest-le p like
-
-  pub next_from : from ≤ p → from ≤ next_like keys from p
-  unfolding next_like like
-  next_from l =
-      elim (dec_lt (lowest p like) p) [
-        | yes y ↦ leb-true from (lowest p like) (Shapes.and_l (leb from (lowest p like)) (eqb (get_or keys (lowest p like) 0) (get_or keys p 0)) (lowest_hit p like y))
-        | no y ↦ omega arith
-      ]
-
-  pub next_below : (i : ℕ) → from ≤ i → i < next_like keys from p → get_or keys i 0 ≡ get_or keys p 0 → ⊥
-  unfolding next_like like
-  next_below i l m e =
-      not_both (Shapes.and_both (leb from i) (eqb (get_or keys i 0) (get_or keys p 0)) (le-leb from i l) (eq-eqb (get_or keys i 0) (get_or keys p 0) e)) (lowest_below p like i m)
 
 module _ (s : State) where
   pub names_at : names_apart s ≡ true → (p q : ℕ) → p ≤ s.count → q < p → same (at (rows s) q).name (at (rows s) p).name ≡ false
@@ -213,11 +205,16 @@ module _ (s : State) where
       all_below_all (suc s.count) (λ i. apart (rows s) i)
       (λ p l. all_below_all p (λ r. not (same (at (rows s) r).name (at (rows s) p).name)) (λ q m. ap not (h p q (omega arith) m)))
 
-  pub names_fail : (p q : ℕ) → p ≤ s.count → q < p → same (at (rows s) q).name (at (rows s) p).name ≡ true → names_apart s ≡ false
-  names_fail p q l m t = fails (names_apart s) (λ h. not_both t (names_at h p q l m))
+  pub names_fail : (p : ℕ) → p ≤ s.count → apart (rows s) p ≡ false → names_apart s ≡ false
+  unfolding names_apart
+  names_fail p l f = fails (names_apart s) (λ h. not_both (all_below-at (suc s.count) (λ i. apart (rows s) i) h p (omega arith)) f)
+
+  pub names_each : ((p : ℕ) → p ≤ s.count → apart (rows s) p ≡ true) → names_apart s ≡ true
+  unfolding names_apart
+  names_each h = all_below_all (suc s.count) (λ i. apart (rows s) i) (λ p l. h p (omega arith))
 
 -- the names that stand in the blocks are those of the rows
-pub names_of_rows : (s : State) (i j : ℕ) (d e : Block) → i ≤ s.count → j ≤ s.count → s.count < length s.blocks
+names_of_rows : (s : State) (i j : ℕ) (d e : Block) → i ≤ s.count → j ≤ s.count → s.count < length s.blocks
     → same (get_or s.blocks i d).name (get_or s.blocks j e).name ≡ same (at (rows s) i).name (at (rows s) j).name
 names_of_rows s i j d e l m k =
     ap (λ (b : Block). same b.name (get_or s.blocks j e).name) (sym (at_rows s i d l (omega arith)))
@@ -225,21 +222,27 @@ names_of_rows s i j d e l m k =
 
 -- the keys tell names apart
 module _ (s : State) (keys : List ℕ) (column : keys ≡ map (λ b. key b.name) s.blocks) (p : ℕ) (l : p ≤ s.count) (m : s.count < length s.blocks) where
-  pub differ : (i : ℕ) → i ≤ p → (get_or keys i 0 ≡ get_or keys p 0 → ⊥) → same (at (rows s) i).name (at (rows s) p).name ≡ false
+  differ : (i : ℕ) → i ≤ p → (get_or keys i 0 ≡ get_or keys p 0 → ⊥) → same (at (rows s) i).name (at (rows s) p).name ≡ false
   differ i k f =
       let named : (j : ℕ) → j ≤ p → get_or keys j 0 ≡ key (at (rows s) j).name =
       λ j n. key-at s keys column j ∙ ap (λ (b : Block). key b.name) (sym (at_rows s j blank (omega arith) (omega arith))) in
       keys_differ (at (rows s) i).name (at (rows s) p).name (λ e. f (named i k ∙ e ∙ sym (named p (omega arith))))
 
-  -- a search by keys passes over no name that is p's
-  pub passed : (from : ℕ)
-      → ((i : ℕ) → i < from → same (at (rows s) i).name (at (rows s) p).name ≡ false)
-      → (i : ℕ)
-      → i < next_like keys from p
-      → same (at (rows s) i).name (at (rows s) p).name ≡ false
-  passed from before i k =
-      let low = next_le keys from p in
-      elim (dec_lt i from) [ yes y ↦ before i y | no y ↦ differ i (omega arith) (next_below keys from p i (omega arith) k) ]
+  -- where none below p has its key, none has its name; else the names tell
+  pub apart-new : list_any (λ k. eqb k (get_or keys p 0)) (take p keys) ≡ false → apart (rows s) p ≡ true
+  unfolding apart
+  apart-new none =
+      all_below_all p (λ q. not (same (at (rows s) q).name (at (rows s) p).name))
+      (λ i k. ap not (differ i (omega arith) (λ e. not_both (list_any_at (λ x. eqb x (get_or keys p 0)) (take p keys) i 0 (omega (arith, length-take-le p keys (omega (arith, long)))) (ap (λ x. eqb x (get_or keys p 0)) (get_or-take p keys i 0 k) ∙ eq-eqb (get_or keys i 0) (get_or keys p 0) e)) none)))
+    where
+      long : length keys ≡ length s.blocks
+      long = ap length column ∙ length-map s.blocks (λ b. key b.name)
+
+  pub apart-is : (d : Block) → list_all (λ q. not (same (get_or s.blocks q d).name (get_or s.blocks p d).name)) (range_with_len 0 p) ≡ apart (rows s) p
+  unfolding apart
+  apart-is d =
+      let ok : ℕ → Bool = λ q. not (same (get_or s.blocks q d).name (get_or s.blocks p d).name) in
+      range_below ok p ∙ all_below_same p ok (λ q. not (same (at (rows s) q).name (at (rows s) p).name)) (λ i k. ap not (names_of_rows s i p d d (omega arith) l m))
 
 -- a mark is set for each key seen
 abbrev pub marks : ℕ
@@ -249,8 +252,16 @@ abbrev pub Marked : List Bool → List ℕ → ℕ → Type 0
 Marked seen keys p = (i : ℕ) → i < p → get_or seen (get_or keys i 0 % marks) false ≡ true
 
 -- a key with no mark is none of those seen
-pub unmarked : (seen : List Bool) (keys : List ℕ) (p : ℕ) → Marked seen keys p → get_or seen (get_or keys p 0 % marks) false ≡ false → (i : ℕ) → i < p → get_or keys i 0 ≡ get_or keys p 0 → ⊥
+unmarked : (seen : List Bool) (keys : List ℕ) (p : ℕ) → Marked seen keys p → get_or seen (get_or keys p 0 % marks) false ≡ false → (i : ℕ) → i < p → get_or keys i 0 ≡ get_or keys p 0 → ⊥
 unmarked seen keys p all none i l e = not_both (all i l) (ap (λ (k : ℕ). get_or seen (k % marks) false) e ∙ none)
+
+-- so a row whose key has no mark has no row of its name below it
+pub apart_new : (s : State) (keys : List ℕ) → keys ≡ map (λ b. key b.name) s.blocks → (p : ℕ) → p ≤ s.count → s.count < length s.blocks
+    → (seen : List Bool) → Marked seen keys p → get_or seen (get_or keys p 0 % marks) false ≡ false → apart (rows s) p ≡ true
+unfolding apart
+apart_new s keys column p l m seen all none =
+    all_below_all p (λ q. not (same (at (rows s) q).name (at (rows s) p).name))
+    (λ i k. ap not (differ s keys column p l m i (omega arith) (unmarked seen keys p all none i k)))
 
 -- a mark that is set stays
 set_stays : (seen : List Bool) (k j : ℕ) → k < length seen → get_or seen j false ≡ true → get_or (set seen k true) j false ≡ true
@@ -317,3 +328,44 @@ shaped_by_names s numbers count kept local clocks unused held =
         let b = at t p in
         let tests = row_tests s.n t p row in
         Shapes.block_of s.n t p tests.1.name (λ q k. names q m k) tests.0 tests.1.parent tests.1.epoch tests.1.voters
+
+-- the tests in the order of the code
+pub shaped_parts : (s : State)
+    → well_shaped s ≡ (nodes s.n s.own.0 && leb s.count capacity && leb s.kept.0 s.count && ltb 0 s.local.0 && clocks_ok s.n s.clocks && unused_ok s && held_ok s && names_apart s)
+shaped_parts s =
+    let all = nodes s.n s.own.0 && leb s.count capacity && leb s.kept.0 s.count && ltb 0 s.local.0 && clocks_ok s.n s.clocks && unused_ok s && held_ok s && names_apart s in
+    same_test (well_shaped s) all
+    (λ h.
+    let numbers = Shapes.shaped_numbers s h in
+    let count = Shapes.shaped-count s h in
+    let kept = Shapes.shaped-kept s h in
+    let local = Shapes.shaped_local s h in
+    let clocks = Shapes.shaped_clocks s h in
+    let unused = shaped_unused s h in
+    let held = shaped-held s h in
+    let names = shaped_names s h in
+    grind (arith, nat_tests))
+    (λ h.
+    let count : s.count ≤ capacity = grind (arith, nat_tests) in
+    let kept : s.kept.0 ≤ s.count = grind (arith, nat_tests) in
+    let local : 0 < s.local.0 = grind (arith, nat_tests) in
+    let by = shaped_by_names s (grind (arith, nat_tests)) count kept local (grind (arith, nat_tests)) (grind (arith, nat_tests)) (grind (arith, nat_tests)) in
+    sym by ∙ grind (arith, nat_tests))
+
+-- ---- what `Shaped::new` answers tells of the state
+
+some_of : {A : Type 0} (b : Bool) (x y : A) → Some x ≡ pick b (Some y) None → (b ≡ true) × (x ≡ y)
+unfolding pick
+some_of true x y e = (refl, cc)
+some_of false x y e = cc
+
+none_of : {A : Type 0} (b : Bool) (y : A) → None ≡ pick b (Some y) None → b ≡ false
+unfolding pick
+none_of true y e = cc
+none_of false y e = refl
+
+pub shaped_some : (s t : State) → Some t ≡ pick (well_shaped s) (Some s) None → (well_shaped s ≡ true) × (t ≡ s)
+shaped_some s t = some_of (well_shaped s) t s
+
+pub shaped_none : (s : State) → None ≡ pick (well_shaped s) (Some s) None → well_shaped s ≡ false
+shaped_none s = none_of (well_shaped s) s

@@ -3,7 +3,7 @@
 use Rattle.std.specs.Prelude.{ℕ, suc, ◌+◌, ◌*◌, Bool, not, ◌&&◌, ◌||◌, List, eqb, ltb, leb, get_or}
 use Rattle.table.specs.declared.Block.{Block}
 use Rattle.table.specs.declared.State.{State}
-use Rattle.table.specs.Scan.{all_below, lowest}
+use Rattle.table.specs.Scan.{all_below}
 use Rattle.table.specs.Bytes.{same, zeros}
 use Rattle.table.specs.Rows.{capacity, blank, rows, at}
 use Rattle.pala.specs.Counts.{block_epoch}
@@ -42,8 +42,3 @@ names_apart s = all_below (suc s.count) (λ p. apart (rows s) p)
 -- a name's first two bytes and its last two, in one number: names whose keys differ are not alike
 unfoldable pub key : List ℕ → ℕ
 key name = get_or name 0 0 + 256 * get_or name 1 0 + 65536 * get_or name 30 0 + 16777216 * get_or name 31 0
-
--- from a place up, the lowest below p that has p's key; p where there is none
-unfoldable pub next_like : List ℕ → ℕ → ℕ → ℕ
-unfolding lowest
-next_like keys from p = lowest p (λ q. leb from q && eqb (get_or keys q 0) (get_or keys p 0))

@@ -3,18 +3,16 @@
 ghost use Rattle.std.specs.Prelude.{◌≡◌};
 ghost use Rattle.pala.specs.Shape.{clocks_ok};
 
-use table::{Epoch, MOST_NODES};
+use table::{Epoch, NODES};
 
-// Are the clocks of numbers at or above n all zero.
-pub fn clocks_ok(n: u32, clocks: [Epoch; 32]) -> bool
-    ensures { result ≡ clocks_ok n clocks }
+// Are the clocks of numbers at or above n all zero. All are looked at, so that many are compared at a time.
+// `voters_ok` is alike but for the element: one function for both would take the test as a closure and its law, and be longer.
+pub fn clocks_ok(n: u32, clocks: &[Epoch; NODES]) -> bool
+    ensures { result ≡ clocks_ok n clocks.now }
 {
     let mut good = true;
-    let mut k: u32 = 0;
-    while k < MOST_NODES {
-        let i = k as usize;
-        good = good & ((k < n) | (clocks[i].0 == 0));
-        k += 1;
+    for (k, clock) in clocks.iter().enumerate() {
+        good &= k < n as usize || clock.0 == 0;
     }
     good
 }

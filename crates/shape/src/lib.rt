@@ -1,5 +1,5 @@
 // 01: "A state is well shaped when ..". The test is total: a state is anything at all, and the answer is determined.
-// It runs on every public call, so no loop over the rows hands a State on.
+// It runs on every public call.
 // It relies on `table` for the types and on `pala` for what well shaped means.
 
 #![tactic(auto)]
@@ -7,6 +7,7 @@
 mod clocks;
 mod names;
 mod places;
+pub mod shaped;
 
 ghost use Rattle.std.specs.Prelude.{◌≡◌};
 ghost use Rattle.pala.specs.Counts.{nodes};
@@ -21,46 +22,19 @@ use table::{CAPACITY, MOST_NODES, NodeNo, State};
 pub fn nodes(n: u32, own: NodeNo) -> bool
     ensures { result ≡ nodes n own.0 }
 {
-    let me = own.0;
-    if n == 0 {
-        return false;
-    }
-    if MOST_NODES < n {
-        return false;
-    }
-    me < n
+    0 < n && n <= MOST_NODES && own.0 < n
 }
 
-// "A state is well shaped when n is 1 to 32, own number below n, at most 64 blocks, .."
-pub fn well_shaped(s: State) -> bool
-    ensures { result ≡ well_shaped s }
+// "A state is well shaped when n is 1 to 32, own number below n, at most 64 blocks, .." The last tests are asked of a count that fits.
+pub fn well_shaped(s: &State) -> bool
+    ensures { result ≡ well_shaped s.now }
 {
-    let n = s.n;
-    let own = s.own;
-    let held = s.count;
-    let kept = s.kept.0;
-    let local = s.local.0;
-    let clocks = s.clocks;
-    if !nodes(n, own) {
-        return false;
-    }
-    if CAPACITY < held {
-        return false;
-    }
-    if held < kept {
-        return false;
-    }
-    if local == 0 {
-        return false;
-    }
-    if !clocks_ok(n, clocks) {
-        return false;
-    }
-    if !unused_ok(s) {
-        return false;
-    }
-    if !held_ok(s) {
-        return false;
-    }
-    names_apart(s)
+    nodes(s.n, s.own)
+        && s.count <= CAPACITY
+        && s.kept.0 <= s.count
+        && 0 < s.local.0
+        && clocks_ok(s.n, &s.clocks)
+        && unused_ok(s)
+        && held_ok(s)
+        && names_apart(s)
 }

@@ -1,115 +1,66 @@
 // "no two alike": names are compared by a key first, and byte by byte only where the keys are the same.
 
-ghost use Rattle.std.specs.Prelude.{map, ◌≡◌, ◌≤◌, ◌<◌};
-ghost use Rattle.table.specs.Rows.{capacity};
-ghost use Rattle.shape.specs.Parts.{key, names_apart, next_like};
+ghost use Rattle.std.specs.Prelude.{◌≡◌, ◌≤◌, eqb, map};
+ghost use Rattle.std.specs.List.{list_any};
+ghost use Rattle.table.specs.Rows.{capacity, rows};
+ghost use Rattle.shape.specs.Parts.{apart, key, names_apart};
 
+use std::array::from_fn;
 use table::names::same_name;
-use table::{CAPACITY, Place, State};
+use table::{Block, NAME_BYTES, ROWS, State};
 
-// The bytes of a name that its key is made of: the first two and the last two.
-const SECOND: usize = 1;
+// How many marks tell the keys seen apart; it is prime, so that every byte of a key counts. Few keys share one: with no marks
+// the test of the shape takes a third longer.
+const MARKS: usize = 251;
 
-const LAST_BUT_ONE: usize = 30;
-
-const LAST: usize = 31;
-
-// What the second, third and fourth byte of a number count for, the lowest first.
-const SECOND_BYTE: u32 = 256;
-
-const THIRD_BYTE: u32 = 65536;
-
-const FOURTH_BYTE: u32 = 16777216;
-
-// How many marks tell the keys seen apart; it is prime, so that every byte of a key counts.
-const MARKS: u32 = 251;
-
-// A byte as a larger number.
-fn wide(x: u8) -> u32
-    ensures { (result ≡ x) × (result < 256) }
+// The key of a name: its first two bytes and its last two.
+fn key_of(name: &[u8; NAME_BYTES]) -> u32
+    ensures { result ≡ key name.now }
 {
-    x as u32
+    let [a, b, .., c, d] = *name;
+    u32::from_le_bytes([a, b, c, d])
 }
 
-// The key of a name.
-fn key_of(name: [u8; 32]) -> u32
-    ensures { result ≡ key name }
+// The keys of the rows' names, side by side, where many are compared at a time; in the blocks they stand 96 bytes apart.
+fn keys_of(blocks: &[Block; ROWS]) -> [u32; ROWS]
+    ensures { result ≡ map (λ b. key b.name) blocks.now }
 {
-    let a = wide(name[0]);
-    let b = wide(name[SECOND]);
-    let c = wide(name[LAST_BUT_ONE]);
-    let d = wide(name[LAST]);
-    a + SECOND_BYTE * b + THIRD_BYTE * c + FOURTH_BYTE * d
+    from_fn(|p| key_of(&blocks[p].name))
 }
 
-// The keys of the rows' names, in a column that can be lent.
-fn keys_of(s: State) -> [u32; 65]
-    ensures { result ≡ map (λ b. key b.name) s.blocks }
+// Is a key among others. All are looked at, so that many are compared at a time.
+fn key_among(keys: &[u32], key: u32) -> bool
+    ensures { result ≡ list_any (λ k. eqb k key) keys.now }
 {
-    let mut keys: [u32; 65] = [0; CAPACITY as usize + 1];
-    let mut p: u32 = 0;
-    while p <= CAPACITY {
-        let i = p as usize;
-        let b = s.blocks[i];
-        let name = b.name;
-        keys[i] = key_of(name);
-        p += 1;
+    let mut found = false;
+    for k in keys {
+        found |= *k == key;
     }
-    keys
+    found
 }
 
-// From a place up, the first that has p's key. The search ends at p itself, so that each turn has one test.
-fn next_like(keys: &[u32; 65], from: Place, p: Place) -> Place
-    requires { (from.0 ≤ p.0) × (p.0 ≤ capacity) }
-    ensures { result.0 ≡ next_like keys.now from.0 p.0 }
+// Has no row below p its name.
+fn apart(s: &State, keys: &[u32; ROWS], p: usize) -> bool
+    requires { (p ≤ s.now.count) × (s.now.count ≤ capacity) × (keys.now ≡ map (λ b. key b.name) s.now.blocks) }
+    ensures { result ≡ apart (rows s.now) p }
 {
-    let end = p.0 as usize;
-    let sought = keys[end];
-    let mut q = from.0;
-    loop {
-        let i = q as usize;
-        if keys[i] == sought {
-            return Place(q);
-        }
-        q += 1;
-    }
+    !key_among(&keys[..p], keys[p])
+        || (0..p).all(|q| !same_name(&s.blocks[q].name, &s.blocks[p].name))
 }
 
-// Has no row the name of one below it. A turn goes on to the next two places with one key, or to the next p;
-// a p whose key has no mark yet has no such place.
-pub fn names_apart(s: State) -> bool
-    requires { s.count ≤ capacity }
-    ensures { result ≡ names_apart s }
+// Has no row the name of one below it. A row whose key is the first of its mark has no such row.
+pub fn names_apart(s: &State) -> bool
+    requires { s.now.count ≤ capacity }
+    ensures { result ≡ names_apart s.now }
 {
-    let keys = keys_of(s);
-    let mut seen: [bool; 251] = [false; MARKS as usize];
-    let last = s.count;
-    let mut p: u32 = 0;
-    let mut q: u32 = 0;
-    while p <= last {
-        let j = p as usize;
-        let mark = (keys[j] % MARKS) as usize;
-        if !seen[mark] {
-            seen[mark] = true;
-            p += 1;
-            q = 0;
-            continue;
-        }
-        q = next_like(&keys, Place(q), Place(p)).0;
-        if q == p {
-            p += 1;
-            q = 0;
-            continue;
-        }
-        let i = q as usize;
-        let a = s.blocks[i];
-        let b = s.blocks[j];
-        let low = a.name;
-        let high = b.name;
-        if same_name(low, high) {
+    let keys = keys_of(&s.blocks);
+    let mut seen = [false; MARKS];
+    for p in 0..s.count as usize + 1 {
+        let mark = keys[p] as usize % MARKS;
+        if seen[mark] && !apart(s, &keys, p) {
             return false;
         }
-        q += 1;
+        seen[mark] = true;
     }
     true
 }

@@ -3,8 +3,10 @@ use mathlib.Core.Path.{◌≡◌}
 use Rattle.table.proofs.Laws.{one-outcome}
 use Rattle.table.proofs.names.same_name.Reads as same_name
 use Rattle.table.proofs.names.zero_name.Reads as zero_name
+use Rattle.table.proofs.names.zeros.Reads as zeros
 use Rattle.table.proofs.rows.at.Reads as at
 use Rattle.table.proofs.rows.find.Reads as find
+use Rattle.table.proofs.rows.lower.Reads as lower
 use Rattle.table.proofs.rows.row_of.Reads as row_of
 use Rattle.table.proofs.rows.size_of.Reads as size_of
 use Rattle.table.proofs.voters.has_voter.Reads as has_voter
@@ -19,8 +21,14 @@ same_name_one κs a r q s t = one-outcome
 zero_name_one : (κs : _) (a : _) (r q : _) (s t : _) → zero_name.Post κs a r s → zero_name.Post κs a q t → r ≡ q
 zero_name_one κs a r q s t = one-outcome
 
-at_one : (κs : _) (a : _) (r q : _) (s t : _) → at.Post κs a r s → at.Post κs a q t → r ≡ q
+zeros_one : (κs : _) (a : _) (r q : _) (s t : _) → zeros.Post κs a r s → zeros.Post κs a q t → r ≡ q
+zeros_one κs a r q s t = one-outcome
+
+at_one : (κs : _) (a : _) (r q : _) (s t : _) → at.Post κs a r s → at.Post κs a q t → r.now ≡ q.now
 at_one κs a r q s t = one-outcome
+
+lower_one : (κs : _) (a : _) (r q : _) (s t : _) → lower.Post κs a r s → lower.Post κs a q t → r ≡ q
+lower_one κs a r q s t = one-outcome
 
 row_of_one : (κs : _) (a : _) (r q : _) (s t : _) → row_of.Post κs a r s → row_of.Post κs a q t → r ≡ q
 row_of_one κs a r q s t = one-outcome

@@ -2,23 +2,29 @@
 -- Scans first (`Scan`), then bytes (`Bytes`), then rows (`Rows`). Assumes nothing.
 use Prim.Native.Nat.{ℕ, zero, suc, ◌+◌, ◌≤◌, ◌<◌, zero-le, max, min}
 use mathlib.Core.Bool.{Bool, true, false, ◌&&◌, and-eq-true_iff, true≢false, false≢true}
-use mathlib.Core.List.{List, [], ◌∷◌, map}
+use Rattle.std.proofs.Math.Bool.{and_assoc, and_comm}
+use Rattle.std.proofs.Common.{nat_eq, ◌++◌}
+use Rattle.std.proofs.lemmas.List.{take_more}
+use lib.ListN.{take}
+use lib.Pointwise.{pointwise}
+use mir.Val.{bool_byte}
+use mathlib.Core.List.{List, [], ◌∷◌}
 use mathlib.Core.Logic.{◌⊎◌, inl, inr, ⊎_elim}
+use Rattle.std.specs.Prelude.{Some, None}
 use mathlib.Core.Path.{◌≡◌, refl, sym, ap, ◌∙◌}
 use native.Mathlib.Decide.{dec_le, dec_lt}
 use native.Mathlib.Nat.{le_refl, not-suc-le-zero, le_of_suc-le-suc}
 use native.Mathlib.Numerals.{add-one}
 use native.Mathlib.Omega.{arith}
 use borrow.Author.Count.{below_more}
-use borrow.Author.Tests.{ltb-true, ltb-false, le-leb, lt-leb, eqb-true, eq-eqb}
+use borrow.Author.Tests.{ltb-true, ltb-false, lt-ltb, le-ltb, le-leb, lt-leb, eqb-true, eq-eqb}
 use lib.Dec.{ltb, leb, eqb}
-use lib.ListN.{length, get_or, replicate, length-take, length-replicate, length-map, get_or-eq_default}
-use lib.Seq.{ext_get_or, get_or-take, set_out}
+use lib.ListN.{length, get_or, replicate, length-take, length-replicate, get_or-eq_default}
+use lib.Seq.{get_or-take, set_out}
 use Rattle.table.specs.Scan.{pick, all_below, count, lowest, highest, greatest}
 use Rattle.table.specs.Bytes.{same, zeros}
-use Rattle.table.specs.Rows.{capacity, row_of, rows, at, size, blank, find, has_voter, with_voter, votes, most_nodes}
+use Rattle.table.specs.Rows.{capacity, row_of, rows, at, size, blank, find, found, has_voter, with_voter, votes, most_nodes}
 use Rattle.table.specs.declared.Block.{Block}
-use Rattle.table.specs.declared.rows.Found.{Found}
 use Rattle.table.specs.declared.State.{State}
 
 -- ---- promises
@@ -79,6 +85,11 @@ unfolding all_below
 all_below_all zero ok h = refl
 all_below_all (suc k) ok h =
     (and-eq-true_iff (all_below k ok) (ok k)).1 (all_below_all k ok (λ i l. h i (omega arith)), h k (le_refl (suc k)))
+
+pub all_below_same : (k : ℕ) (f g : ℕ → Bool) → ((i : ℕ) → i < k → f i ≡ g i) → all_below k f ≡ all_below k g
+unfolding all_below
+all_below_same zero f g e = refl
+all_below_same (suc k) f g e = ap (λ (t : Bool). t && f k) (all_below_same k f g (λ i l. e i (omega arith))) ∙ ap (λ (t : Bool). all_below k g && t) (e k (omega arith))
 
 -- ---- count
 
@@ -146,8 +157,8 @@ record Lowest (k : ℕ) (ok : ℕ → Bool) (w : ℕ) : Type 0 where
   below : (i : ℕ) → i < w → ok i ≡ false
 
 module _ (k : ℕ) (ok : ℕ → Bool) (w : ℕ) (ih : Lowest k ok w) where
-  found : w < k → Lowest (suc k) ok w
-  found l = record { within = omega (arith, ih.within); hit = λ m. ih.hit l; below = ih.below }
+  passed : w < k → Lowest (suc k) ok w
+  passed l = record { within = omega (arith, ih.within); hit = λ m. ih.hit l; below = ih.below }
 
   here : k ≤ w → ok k ≡ true → Lowest (suc k) ok k
   here l y = record { within = omega arith; hit = λ m. y; below = λ i m. ih.below i (omega arith) }
@@ -168,7 +179,7 @@ lowest-lowest (suc k) ok =
     let w = lowest k ok in
     let ih = lowest-lowest k ok in
     let end = pick-case (Lowest (suc k) ok) (ok k) k (suc k) in
-    pick-case (Lowest (suc k) ok) (ltb w k) w (pick (ok k) k (suc k)) (λ e. found k ok w ih (ltb-true w k e))
+    pick-case (Lowest (suc k) ok) (ltb w k) w (pick (ok k) k (suc k)) (λ e. passed k ok w ih (ltb-true w k e))
     (λ e. end (here k ok w ih (ltb-false w k e)) (nowhere k ok w ih (ltb-false w k e)))
 
 pub lowest-le : (k : ℕ) (ok : ℕ → Bool) → lowest k ok ≤ k
@@ -237,10 +248,6 @@ highest-highest (suc k) ok rank =
     pick-case (Highest (suc k) ok rank) (ok k && ltb (rank w) (rank k)) k w
     (λ e. beaten k ok rank w ih (both.0 e).0 (ltb-true (rank w) (rank k) (both.0 e).1))
     (λ e. unbeaten k ok rank w ih (λ h. ltb-false (rank w) (rank k) (rw h at e)))
-
-pub highest-step : (k : ℕ) (ok : ℕ → Bool) (rank : ℕ → ℕ) → highest (k + 1) ok rank ≡ pick (ok k && ltb (rank (highest k ok rank)) (rank k)) k (highest k ok rank)
-unfolding highest
-highest-step k ok rank = rw add-one
 
 -- the winner passes, unless it is 0, the start, which wins also where nothing passes
 pub highest-passes : (k : ℕ) (ok : ℕ → Bool) (rank : ℕ → ℕ) → (highest k ok rank ≡ 0) ⊎ ((highest k ok rank < k) × (ok (highest k ok rank) ≡ true))
@@ -317,10 +324,6 @@ get_d_any [] i d e h = absurd (not-suc-le-zero h)
 get_d_any (x ∷ xs) zero d e h = refl
 get_d_any (x ∷ xs) (suc i) d e h = get_d_any xs i d e (le_of_suc-le-suc h)
 
--- an array of structs is held as a `map` over its list, which is as long
-pub length-unmap {ℓ κ} : {A : Type ℓ} {B : Type κ} (f : A → B) (l : List A) (n : ℕ) → length (map f l) ≡ n → length l ≡ n
-length-unmap f l n e = sym (length-map l f) ∙ e
-
 -- ---- bytes
 
 pub same_refl : (a : List ℕ) → same a a ≡ true
@@ -346,8 +349,22 @@ same_false a b h = fails (same a b) (λ e. h (same_true a b e))
 pub same_differs : (a b : List ℕ) (i : ℕ) → (get_or a i 0 ≡ get_or b i 0 → ⊥) → same a b ≡ false
 same_differs a b i h = same_false a b (λ e. h (ap (λ (l : List ℕ). get_or l i 0) e))
 
-pub same_all : (a b : List ℕ) (n : ℕ) → length a ≡ n → length b ≡ n → ((i : ℕ) → i < n → get_or a i 0 ≡ get_or b i 0) → same a b ≡ true
-same_all a b n p q h = ap (same a) (sym (ext_get_or 0 a b (p ∙ sym q) (λ i l. h i (omega arith)))) ∙ same_refl a
+-- std's comparison of two lists, element by element
+pub pointwise-same : (a b : List ℕ) → pointwise nat_eq a b ≡ same a b
+unfolding same
+pointwise-same [] [] = refl
+pointwise-same [] (y ∷ ys) = refl
+pointwise-same (x ∷ xs) [] = refl
+pointwise-same (x ∷ xs) (y ∷ ys) = ap (λ (t : Bool). eqb x y && t) (pointwise-same xs ys)
+
+-- one byte more
+zeros-append : (a : List ℕ) (x : ℕ) → zeros (a ++ x ∷ []) ≡ (zeros a && eqb x 0)
+unfolding zeros
+zeros-append [] x = and_comm (eqb x 0) true
+zeros-append (y ∷ ys) x = ap (λ (t : Bool). eqb y 0 && t) (zeros-append ys x) ∙ sym (and_assoc (eqb y 0) (zeros ys) (eqb x 0))
+
+pub zeros-more : (a : List ℕ) (i : ℕ) → i < length a → zeros (take (i + 1) a) ≡ (zeros (take i a) && eqb (get_or a i 0) 0)
+zeros-more a i h = ap zeros (take_more a i 0 h) ∙ zeros-append (take i a) (get_or a i 0)
 
 -- a list is all zero where it is the same as as many zeros
 pub zeros-same : (a : List ℕ) (n : ℕ) → length a ≡ n → zeros a ≡ same a (replicate n 0)
@@ -404,12 +421,16 @@ pub find_none : (t : List Block) (name : List ℕ) → ((i : ℕ) → i < size t
 unfolding find
 find_none t name none_has = lowest_none (size t) (λ p. same (at t p).name name) none_has
 
--- .. and what is found there
-pub found_is : (t : List Block) (name : List ℕ) (p : ℕ) (b : Block) → find t name ≡ p → at t p ≡ b → ◌≡◌ {A = Found} (record { place = record { 0 = p }; block = b }) (record { place = record { 0 = find t name }; block = at t (find t name) })
-found_is t name p b e h =
-    sym
-    (ap (λ (w : ℕ). record { place = record { 0 = w }; block = at t w }) e
-    ∙ ap (λ (x : Block). record { place = record { 0 = p }; block = x }) h)
+-- .. and as an Option
+pub found_at : (t : List Block) (name : List ℕ) (p : ℕ) → p < size t → same (at t p).name name ≡ true → ((i : ℕ) → i < p → same (at t i).name name ≡ false) → found t name ≡ Some (record { 0 = p })
+unfolding found
+found_at t name p l here below =
+    let e = find-is t name p l here below in
+    pick_yes (ltb (find t name) (size t)) _ _ (lt-ltb _ _ (omega arith)) ∙ ap (λ (w : ℕ). Some (record { 0 = w })) e
+
+pub found_none : (t : List Block) (name : List ℕ) → ((i : ℕ) → i < size t → same (at t i).name name ≡ false) → found t name ≡ None
+unfolding found
+found_none t name none_has = pick_no (ltb (find t name) (size t)) _ _ (le-ltb _ _ (omega (arith, find_none t name none_has)))
 
 -- ---- voters
 
@@ -429,6 +450,12 @@ with_voter-past b i n e h =
       parent = b.parent;
     })
     (set_out b.voters i true (omega arith))
+
+-- a flag as a byte
+pub flag-byte : (b : Bool) → bool_byte b ≡ pick b 1 0
+unfolding pick
+flag-byte true = refl
+flag-byte false = refl
 
 pub votes-count : (b : Block) (k : ℕ) → k ≡ most_nodes → count k (has_voter b) ≡ votes b
 unfolding votes

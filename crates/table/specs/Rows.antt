@@ -1,8 +1,9 @@
 -- The table that the rules see, and what the leaves do to a row and to a state.
-use Rattle.std.specs.Prelude.{ℕ, suc, Bool, true, false, List, leb, length, get_or, take, set, replicate}
+use Rattle.std.specs.Prelude.{ℕ, suc, Bool, true, false, List, Option, Some, None, leb, ltb, length, get_or, take, set, replicate}
 use Rattle.table.specs.Bytes.{same}
 use Rattle.table.specs.Scan.{pick, count, lowest}
 use Rattle.table.specs.declared.Block.{Block}
+use Rattle.table.specs.declared.Place.{Place}
 use Rattle.table.specs.declared.State.{State}
 
 -- "Nodes: n from 1 to 32"
@@ -53,6 +54,11 @@ at t p = get_or t p (get_or t 0 blank)
 unfoldable pub find : List Block → List ℕ → ℕ
 unfolding lowest same at
 find t name = lowest (size t) (λ p. same (at t p).name name)
+
+-- that place, or none
+unfoldable pub found : List Block → List ℕ → Option Place
+unfolding pick find
+found t name = pick (ltb (find t name) (size t)) (Some (record { 0 = find t name })) None
 
 -- "Beside each: the set of voters counted": is the node among them
 unfoldable pub has_voter : Block → ℕ → Bool

@@ -6,23 +6,26 @@ ghost use Rattle.table.specs.Bytes.{same, zeros};
 use crate::NAME_BYTES;
 
 // Are two names the same.
-pub fn same_name(a: [u8; 32], b: [u8; 32]) -> bool
-    ensures { result ≡ same a b }
+pub fn same_name(a: &[u8; NAME_BYTES], b: &[u8; NAME_BYTES]) -> bool
+    ensures { result ≡ same a.now b.now }
 {
-    let mut k: u32 = 0;
-    while k < NAME_BYTES {
-        let i = k as usize;
-        if a[i] != b[i] {
-            return false;
-        }
-        k += 1;
+    a == b
+}
+
+// Is every byte zero. All are looked at, so that many are compared at a time.
+pub fn zeros(bytes: &[u8]) -> bool
+    ensures { result ≡ zeros bytes.now }
+{
+    let mut none = true;
+    for b in bytes {
+        none &= *b == 0;
     }
-    true
+    none
 }
 
 // Is it "the all-zero name".
-pub fn zero_name(a: [u8; 32]) -> bool
-    ensures { result ≡ zeros a }
+pub fn zero_name(a: &[u8; NAME_BYTES]) -> bool
+    ensures { result ≡ zeros a.now }
 {
-    same_name(a, [0; NAME_BYTES as usize])
+    zeros(a)
 }

@@ -3,7 +3,7 @@
 ghost use Rattle.std.specs.Prelude.{◌≡◌};
 ghost use Rattle.table.specs.Rows.{all_zero, blank, fresh, plain};
 
-use crate::{Block, CAPACITY, Epoch, MOST_NODES, NAME_BYTES, NodeNo, PAYLOAD_BYTES, Place, State};
+use crate::{Block, Epoch, NAME_BYTES, NODES, NodeNo, PAYLOAD_BYTES, Place, ROWS, State};
 
 // "Fresh: local 1"
 const FIRST_EPOCH: u32 = 1;
@@ -13,9 +13,9 @@ fn blank() -> Block
     ensures { result ≡ blank }
 {
     Block {
-        name: [0; NAME_BYTES as usize],
-        payload: [0; PAYLOAD_BYTES as usize],
-        voters: [false; MOST_NODES as usize],
+        name: [0; NAME_BYTES],
+        payload: [0; PAYLOAD_BYTES],
+        voters: [false; NODES],
         epoch: Epoch(0),
         parent: Place(0),
     }
@@ -25,14 +25,12 @@ fn blank() -> Block
 fn plain(n: u32, own: NodeNo, local: Epoch) -> State
     ensures { result ≡ plain n own.0 local.0 }
 {
-    let row = blank();
-    let clock = Epoch(0);
     State {
-        blocks: [row; CAPACITY as usize + 1],
-        clocks: [clock; MOST_NODES as usize],
-        n: n,
-        own: own,
-        local: local,
+        blocks: [blank(); ROWS],
+        clocks: [Epoch(0); NODES],
+        n,
+        own,
+        local,
         bar: Epoch(0),
         voted: Epoch(0),
         proposed: Epoch(0),

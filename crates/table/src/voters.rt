@@ -6,15 +6,10 @@ ghost use Rattle.table.specs.Rows.{has_voter, votes, with_voter};
 use crate::{Block, MOST_NODES, NodeNo};
 
 // Is the node among a block's voters; no number past the set is.
-pub fn has_voter(b: Block, who: NodeNo) -> bool
-    ensures { result ≡ has_voter b who.0 }
+pub fn has_voter(b: &Block, who: NodeNo) -> bool
+    ensures { result ≡ has_voter b.now who.0 }
 {
-    let k = who.0;
-    if MOST_NODES <= k {
-        return false;
-    }
-    let i = k as usize;
-    b.voters[i]
+    who.0 < MOST_NODES && b.voters[who.0 as usize]
 }
 
 // The block with one voter more; a number past the set changes nothing.
@@ -22,27 +17,19 @@ pub fn with_voter(b: Block, who: NodeNo) -> Block
     ensures { result ≡ with_voter b who.0 }
 {
     let mut next = b;
-    let k = who.0;
-    if MOST_NODES <= k {
-        return next;
+    if who.0 < MOST_NODES {
+        next.voters[who.0 as usize] = true;
     }
-    let i = k as usize;
-    next.voters[i] = true;
     next
 }
 
 // How many voters a block has; counted in a byte, which sixteen of can be summed at once.
-pub fn votes(b: Block) -> u32
-    ensures { result ≡ votes b }
+pub fn votes(b: &Block) -> u32
+    ensures { result ≡ votes b.now }
 {
     let mut n: u8 = 0;
-    let mut k: u32 = 0;
-    while k < MOST_NODES {
-        let i = k as usize;
-        if b.voters[i] {
-            n += 1;
-        }
-        k += 1;
+    for voter in &b.voters {
+        n += *voter as u8;
     }
     n as u32
 }

@@ -1,224 +1,107 @@
 // A case: a state, a record and an out buffer, each in an area of its own. A number is 4 bytes, low byte first.
 
-ghost use Rattle.std.specs.Prelude.{◌≡◌, ◌+◌, ◌≤◌, ◌<◌, length};
+ghost use Rattle.std.specs.Prelude.{◌≤◌};
 
-use table::{Block, CAPACITY, Epoch, MOST_NODES, NAME_BYTES, NodeNo, PAYLOAD_BYTES, Place, State};
+use table::states::all_zero;
+use table::{Block, Epoch, NAME_BYTES, NODES, NodeNo, PAYLOAD_BYTES, Place, ROWS, State};
 
-// A byte for each voter, and a number for each clock.
-pub const NODES: usize = MOST_NODES as usize;
-// The rows of a state's table, the genesis's first.
-pub const ROWS: usize = CAPACITY as usize + 1;
 // Bytes of a number.
 pub const NUMBER_BYTES: usize = 4;
-
-// Where a row's fields stand after its name, and its bytes: 96.
-pub const PAYLOAD_AT: usize = NAME_BYTES as usize;
-
-pub const VOTERS_AT: usize = PAYLOAD_AT + PAYLOAD_BYTES as usize;
-
-pub const EPOCH_AT: usize = VOTERS_AT + NODES;
-
-pub const PARENT_AT: usize = EPOCH_AT + NUMBER_BYTES;
-
-pub const ROW_BYTES: usize = PARENT_AT + NUMBER_BYTES;
-
-// Where a state's fields stand after its rows, and its bytes: 6,401.
-pub const CLOCKS_AT: usize = ROW_BYTES * ROWS;
-
-pub const N_AT: usize = CLOCKS_AT + NUMBER_BYTES * NODES;
-
-pub const OWN_AT: usize = N_AT + NUMBER_BYTES;
-
-pub const LOCAL_AT: usize = OWN_AT + NUMBER_BYTES;
-
-pub const BAR_AT: usize = LOCAL_AT + NUMBER_BYTES;
-
-pub const VOTED_AT: usize = BAR_AT + NUMBER_BYTES;
-
-pub const PROPOSED_AT: usize = VOTED_AT + NUMBER_BYTES;
-
-pub const COUNT_AT: usize = PROPOSED_AT + NUMBER_BYTES;
-
-pub const KEPT_AT: usize = COUNT_AT + NUMBER_BYTES;
-
-pub const TORN_AT: usize = KEPT_AT + NUMBER_BYTES;
-
-pub const STATE_BYTES: usize = TORN_AT + 1;
+// Bytes of a row: name, payload, a byte for each voter, epoch and parent; 96.
+pub const ROW_BYTES: usize = NAME_BYTES + PAYLOAD_BYTES + NODES + 2 * NUMBER_BYTES;
+// The numbers beside rows and clocks.
+const NUMBERS: usize = 8;
+// Bytes of a state: rows, clocks, numbers, torn or not; 6,401.
+pub const STATE_BYTES: usize = ROW_BYTES * ROWS + NUMBER_BYTES * (NODES + NUMBERS) + 1;
 
 // The areas that the record and the out buffer stand in, each after its length, and a case's bytes: 6,793.
-pub const RECORD_AREA: usize = 256;
+const RECORD_AREA: usize = 256;
 
 pub const OUT_AREA: usize = 128;
 
-const RECORD_LENGTH_AT: usize = STATE_BYTES;
+pub const CASE_BYTES: usize = STATE_BYTES + NUMBER_BYTES + RECORD_AREA + NUMBER_BYTES + OUT_AREA;
 
-const RECORD_AT: usize = RECORD_LENGTH_AT + NUMBER_BYTES;
-
-const OUT_LENGTH_AT: usize = RECORD_AT + RECORD_AREA;
-
-const OUT_AT: usize = OUT_LENGTH_AT + NUMBER_BYTES;
-
-pub const CASE_BYTES: usize = OUT_AT + OUT_AREA;
-
-// What a number's second, third and fourth byte count for.
-pub const SECOND: u32 = 256;
-
-pub const THIRD: u32 = 65536;
-
-pub const FOURTH: u32 = 16777216;
-
-// A byte as a number.
-fn wide(b: u8) -> u32
-    ensures { result < 256 }
-{
-    b as u32
+// An area, of which the first `length` bytes are lent; no heap.
+#[derive(Drop)]
+pub struct Area<const N: usize> {
+    pub bytes: [u8; N],
+    pub length: usize,
+    ghost within: { length ≤ N },
 }
 
-// The number from an index on.
-fn number_at(case: &[u8; CASE_BYTES], at: usize) -> u32
-    requires { at + 4 ≤ 6793 }
-{
-    let first = wide(case[at]);
-    let second = wide(case[at + 1]);
-    let third = wide(case[at + 2]);
-    let fourth = wide(case[at + 3]);
-    first + SECOND * second + THIRD * third + FOURTH * fourth
+#[derive(Drop)]
+pub struct Case {
+    pub state: State,
+    pub record: Area<RECORD_AREA>,
+    pub out: Area<OUT_AREA>,
 }
 
-// Fills a buffer with the bytes from an index on.
-fn copy(case: &[u8; CASE_BYTES], at: usize, to: &mut [u8])
-    requires { at + length to.old ≤ 6793 }
-    ensures { length to.new ≡ length to.old }
-{
-    let mut k: usize = 0;
-    while k < to.len() {
-        to[k] = case[at + k];
-        k += 1;
+impl Case {
+    // Reads a case; none where it is short.
+    pub fn read(bytes: &[u8]) -> Option<Case> {
+        let mut rest = Rest(bytes);
+        Some(Case {
+            state: rest.state()?,
+            record: rest.area()?,
+            out: rest.area()?,
+        })
     }
 }
 
-// A name from an index on.
-fn name_at(case: &[u8; CASE_BYTES], at: usize) -> [u8; 32]
-    requires { at + 32 ≤ 6793 }
-{
-    let mut name = [0u8; NAME_BYTES as usize];
-    copy(case, at, &mut name);
-    name
-}
+// What is left to read.
+#[derive(Drop)]
+struct Rest<'a>(&'a [u8]);
 
-// A payload from an index on.
-fn payload_at(case: &[u8; CASE_BYTES], at: usize) -> [u8; 24]
-    requires { at + 24 ≤ 6793 }
-{
-    let mut payload = [0u8; PAYLOAD_BYTES as usize];
-    copy(case, at, &mut payload);
-    payload
-}
-
-// A set of voters from an index on, a byte for each node.
-fn voters_at(case: &[u8; CASE_BYTES], at: usize) -> [bool; 32]
-    requires { at + 32 ≤ 6793 }
-{
-    let mut voters = [false; NODES];
-    let mut k: usize = 0;
-    while k < NODES {
-        voters[k] = case[at + k] != 0;
-        k += 1;
+impl Rest<'_> {
+    // The next N bytes; none where it is short.
+    fn take<const N: usize>(&mut self) -> Option<[u8; N]> {
+        let (next, rest) = self.0.split_first_chunk()?;
+        self.0 = rest;
+        Some(*next)
     }
-    voters
-}
 
-// A row from an index on.
-fn row_at(case: &[u8; CASE_BYTES], at: usize) -> Block
-    requires { at + 96 ≤ 6793 }
-{
-    Block {
-        name: name_at(case, at),
-        payload: payload_at(case, at + PAYLOAD_AT),
-        voters: voters_at(case, at + VOTERS_AT),
-        epoch: Epoch(number_at(case, at + EPOCH_AT)),
-        parent: Place(number_at(case, at + PARENT_AT)),
+    fn number(&mut self) -> Option<u32> {
+        Some(u32::from_le_bytes(self.take()?))
     }
-}
 
-// The rows of a case's state, those past the number of blocks too.
-fn rows_of(case: &[u8; CASE_BYTES]) -> [Block; 65] {
-    let first = row_at(case, 0);
-    let mut rows = [first; ROWS];
-    let mut k: usize = 1;
-    while k < ROWS {
-        let row = row_at(case, ROW_BYTES * k);
-        rows[k] = row;
-        k += 1;
+    fn area<const N: usize>(&mut self) -> Option<Area<N>> {
+        let length = self.number()? as usize;
+        Some(Area {
+            bytes: self.take()?,
+            length: length.min(N),
+        })
     }
-    rows
-}
 
-// The clocks of a case's state.
-fn clocks_of(case: &[u8; CASE_BYTES]) -> [Epoch; 32] {
-    let first = Epoch(0);
-    let mut clocks = [first; NODES];
-    let mut k: usize = 0;
-    while k < NODES {
-        let clock = Epoch(number_at(case, CLOCKS_AT + NUMBER_BYTES * k));
-        clocks[k] = clock;
-        k += 1;
+    fn row(&mut self) -> Option<Block> {
+        Some(Block {
+            name: self.take()?,
+            payload: self.take()?,
+            voters: self.take::<NODES>()?.map(|b| b != 0),
+            epoch: Epoch(self.number()?),
+            parent: Place(self.number()?),
+        })
     }
-    clocks
-}
 
-// The state of a case, of any shape.
-pub fn state_of(case: &[u8; CASE_BYTES]) -> State {
-    State {
-        blocks: rows_of(case),
-        clocks: clocks_of(case),
-        n: number_at(case, N_AT),
-        own: NodeNo(number_at(case, OWN_AT)),
-        local: Epoch(number_at(case, LOCAL_AT)),
-        bar: Epoch(number_at(case, BAR_AT)),
-        voted: Epoch(number_at(case, VOTED_AT)),
-        proposed: Epoch(number_at(case, PROPOSED_AT)),
-        count: number_at(case, COUNT_AT),
-        kept: Place(number_at(case, KEPT_AT)),
-        torn: case[TORN_AT] != 0,
+    // A state of any shape: all its rows, those past the number of blocks too, and its clocks, then the rest.
+    fn state(&mut self) -> Option<State> {
+        let mut s = all_zero();
+        for row in s.blocks.iter_mut() {
+            *row = self.row()?;
+        }
+        for clock in s.clocks.iter_mut() {
+            *clock = Epoch(self.number()?);
+        }
+        Some(State {
+            n: self.number()?,
+            own: NodeNo(self.number()?),
+            local: Epoch(self.number()?),
+            bar: Epoch(self.number()?),
+            voted: Epoch(self.number()?),
+            proposed: Epoch(self.number()?),
+            count: self.number()?,
+            kept: Place(self.number()?),
+            torn: self.take()? != [0],
+            ..s
+        })
     }
-}
-
-// A length, cut to its area's size.
-fn cut(length: u32, area: usize) -> usize
-    ensures { result ≤ area }
-{
-    let whole = length as usize;
-    if whole < area {
-        return whole;
-    }
-    area
-}
-
-// The length of the record.
-pub fn record_length(case: &[u8; CASE_BYTES]) -> usize
-    ensures { result ≤ 256 }
-{
-    cut(number_at(case, RECORD_LENGTH_AT), RECORD_AREA)
-}
-
-// The length of the out buffer.
-pub fn out_length(case: &[u8; CASE_BYTES]) -> usize
-    ensures { result ≤ 128 }
-{
-    cut(number_at(case, OUT_LENGTH_AT), OUT_AREA)
-}
-
-// The area that the record stands in.
-pub fn record_area(case: &[u8; CASE_BYTES]) -> [u8; 256] {
-    let mut area = [0u8; RECORD_AREA];
-    copy(case, RECORD_AT, &mut area);
-    area
-}
-
-// The area that the out buffer stands in.
-pub fn out_area(case: &[u8; CASE_BYTES]) -> [u8; 128] {
-    let mut area = [0u8; OUT_AREA];
-    copy(case, OUT_AT, &mut area);
-    area
 }

@@ -7,39 +7,31 @@
 mod cases;
 mod replies;
 
-use cases::CASE_BYTES;
+use cases::{CASE_BYTES, Case};
 use intake::read_full;
-use replies::{REPLY_BYTES, reply_to};
+use replies::reply_to;
 use std::io::{self, Read, Write};
-
-// Writes a reply whole.
-fn write(writer: &mut impl Write, reply: &[u8; REPLY_BYTES]) -> io::Result<()> {
-    writer.write_all(reply)
-}
 
 // Reads a case and writes its reply; may there be another.
 fn try_one(reader: &mut impl Read, writer: &mut impl Write) -> io::Result<bool> {
-    let mut case = [0u8; CASE_BYTES];
-    let got = read_full(reader, &mut case)?;
-    if got != CASE_BYTES {
+    let mut bytes = [0; CASE_BYTES];
+    let got = read_full(reader, &mut bytes)?;
+    let Some(case) = Case::read(&bytes[..got]) else {
         return Ok(false);
-    }
-    let mut reply = [0u8; REPLY_BYTES];
-    reply_to(&case, &mut reply);
-    write(writer, &reply)?;
+    };
+    writer.write_all(&reply_to(case).bytes)?;
     Ok(true)
 }
 
-// A loop has to end, and nothing says that the input does: it counts its turns down from a number that no run uses up.
+// A loop has to end, and nothing says that the input does: it counts its turns to a number that no run uses up.
+// It is not `intake::drive`, which lends a slice of no known length: a reply fills its array, and none is cut.
 fn main(rt: HostRuntime) -> io::Result<()> {
     let mut reader = rt.stdin();
     let mut writer = rt.stdout();
-    let mut turns = u64::MAX;
-    while turns > 0 {
+    for _ in 0..u64::MAX {
         if !try_one(&mut reader, &mut writer)? {
             break;
         }
-        turns -= 1;
     }
     Ok(())
 }

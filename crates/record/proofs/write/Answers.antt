@@ -1,40 +1,21 @@
--- A record is written: four copies, one after the other, fill a buffer of 96 bytes. Assumes nothing.
+-- A record is written: five copies, one after the other, fill a buffer of 96 bytes. Assumes nothing.
+use Rattle.std.proofs.Common.{rules, sym, [], ◌∷◌, ◌∙◌, arith}
 use Rattle.record.proofs.Laws.{written}
-use Rattle.table.proofs.Laws.{pick_yes, pick_no}
-use Rattle.table.specs.Rows.{name_bytes, payload_bytes}
-use borrow.Author.Rules.{rules}
-use borrow.Author.Tests.{eq-eqb, ne_eqb}
-use lib.ListN.{length}
-use mathlib.Core.Path.{◌≡◌, sym, ◌∙◌}
-use native.Mathlib.Omega.{arith}
+use Rattle.table.proofs.Laws.{pick_yes}
+use borrow.Author.Tests.{eq-eqb}
+use Rattle.pala.specs.Record.{low_first}
 use Rattle.record.proofs.write.Goals as goal
-use Rattle.record.proofs.write.Goals.{Start}
-
--- the fields' lengths
-sizes : (c : Start) → (length c.args.f.name ≡ name_bytes) × (length c.args.f.parent ≡ name_bytes) × (length c.args.f.payload ≡ payload_bytes)
-sizes c = (search rules, search rules, search rules)
-
-pub returns-then-out-ne-RECORD_BYTES : goal.returns-then-out-ne-RECORD_BYTES
-returns-then-out-ne-RECORD_BYTES c = sym (pick_no _ _ _ (ne_eqb _ _ c.if-out-ne-RECORD_BYTES.true))
-
-pub put-requires-2 : goal.put-requires-2
-put-requires-2 c =
-    omega (arith, sizes (goal.at.put-requires-2 c).Start, c.put.auto.out, c.if-out-ne-RECORD_BYTES.false)
-
-pub put-requires-3 : goal.put-requires-3
-put-requires-3 c =
-    omega (arith, sizes (goal.at.put-requires-3 c).Start, c.put-2.auto.out, c.put.auto.out, c.if-out-ne-RECORD_BYTES.false)
-
-pub put-requires-4 : goal.put-requires-4
-put-requires-4 c =
-    omega (arith, sizes (goal.at.put-requires-4 c).Start, c.put-3.auto.out, c.put-2.auto.out, c.put.auto.out, c.if-out-ne-RECORD_BYTES.false)
 
 pub returns : goal.returns
+unfolding low_first
 returns c =
-    let size = sizes (goal.at.returns c).Start in
     let held = c.if-out-ne-RECORD_BYTES.false in
-    written _ _ _ _ _ _ _ _ _ _ _ _ held c.head-first.ensures size.0 size.1 size.2 c.put.ensures
-    c.put-2.ensures
-    c.put-3.ensures
-    c.put-4.ensures
+    let kind = c.low_byte.ensures in
+    let sender = c.low_byte-2.ensures in
+    written _ _ _ _ c.args.out.now _ _ _ _ _ _ _ _ _ _ held
+    c.copy_from_slice.ensures.after (λ i. kind i ∷ sender i ∷ 0 ∷ 0 ∷ [])
+    c.copy_from_slice-2.ensures.after c.to_le_bytes.ensures
+    c.copy_from_slice-3.ensures.after (search rules)
+    c.copy_from_slice-4.ensures.after (search rules)
+    c.copy_from_slice-5.ensures.after (search rules) (omega arith)
     ∙ sym (pick_yes _ _ _ (eq-eqb _ _ held))

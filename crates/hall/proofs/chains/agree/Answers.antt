@@ -1,41 +1,43 @@
--- Every honest list and those before it: so far of any two one begins the other. The measure is what is left of them. Assumes nothing.
-use Prim.Native.Nat.{ℕ, zero-le}
-use Rattle.accord.specs.Head.{most_gateways}
-use Rattle.hall.proofs.Agreeing.{begun_none}
-use Rattle.hall.proofs.Parts.{below_fails, below_next}
-use Rattle.hall.specs.Lists.{agree_in}
-use Rattle.table.specs.Scan.{all_below}
-use mathlib.Core.Bool.{not, true}
-use mathlib.Core.Path.{◌≡◌, ◌∙◌, ap, refl, sym}
-use native.Mathlib.Omega.{arith}
+-- Each honest list and the longest before it. Assumes nothing.
+use Rattle.accord.specs.Head.{gateway, honest_in, most_gateways}
+use Rattle.accord.specs.Words.{one_begins}
+use Rattle.hall.proofs.Agreeing.{Longest, list_here, longest_all, longest_new, longest_silent, longest_still, longest-forks}
+use Rattle.hall.proofs.Named.{pick_none, pick_some}
+use Rattle.hall.specs.declared.chains.List.{List as FinalList}
+use Rattle.std.proofs.Common.{arith, ◌≡◌, ◌∙◌, sym, ap, subst, ℕ, ◌+◌, take}
 use Rattle.hall.proofs.chains.agree.Goals as goal
-use Rattle.hall.proofs.chains.agree.Goals.{then-honest-i+else-not-agrees_before, else-honest-i}
-use Rattle.hall.proofs.chains.agree.Invariants.{ok}
+use Rattle.hall.proofs.chains.agree.Goals.{in-Some+else-not-one_begins+then-most-names, in-Some+else-not-one_begins+else-most-names, in_default}
 
-pub loop-i-init : goal.loop-i-init
-unfolding all_below
-loop-i-init c = (zero-le, refl)
-
-pub agrees_before-requires : goal.agrees_before-requires
-agrees_before-requires c = (c.requires, omega arith, c.if-honest-i.true)
-
-pub returns-then-not-agrees_before : goal.returns-then-not-agrees_before
-unfolding agree_in
-returns-then-not-agrees_before c =
-    let a = c.args in
-    below_fails most_gateways (ok a.lists.now a.counts a.honest) c.loop-i.i c.agrees_before.result (omega arith) c.agrees_before.ensures (ap not c.if-not-agrees_before.true)
+pub returns-then-not-one_begins : goal.returns-then-not-one_begins
+returns-then-not-one_begins c =
+    let h = c.args.h.now in
+    let i = c.loop-i.i in
+    let own = pick_some (honest_in h i) (gateway h i) c.in-Some.ensures.told in
+    let here = list_here h i own.1 (c.names-names.ensures ∙ c.of-list.ensures) in
+    longest-forks c.loop-i.invariant own.0 here c.loop-i-test.true (ap (one_begins c.names-names.result.now) (sym c.names-most.ensures) ∙ sym c.one_begins.ensures ∙ c.if-not-one_begins.true)
 
 pub loop-i-preserved : goal.loop-i-preserved
 loop-i-preserved c =
-    let a = c.args in
+    let h = c.args.h.now in
     let i = c.loop-i.i in
-    let here : ok a.lists.now a.counts a.honest i ≡ true =
-    elim c.if-honest-i.branch [ then-honest-i+else-not-agrees_before w ↦ sym w.agrees_before.ensures ∙ w.if-not-agrees_before.false | else-honest-i w ↦ begun_none a.lists.now a.counts a.honest i w.if-honest-i.false ] in
-    (omega arith, below_next i (ok a.lists.now a.counts a.honest) c.loop-i.invariant.1 here)
+    let next : FinalList → Type 0 = λ l. Longest h (i + 1) (take l.length l.room) in
+    elim c.match-honest.branch [
+      | in-Some+else-not-one_begins+then-most-names w ↦
+          let own = pick_some (honest_in h i) (gateway h i) w.in-Some.ensures.told in
+          let here = list_here h i own.1 (w.names-names.ensures ∙ w.of-list.ensures) in
+          subst next (sym w.longest-is)
+          (subst (Longest h (i + 1)) (w.names-names.ensures)
+          (longest_new (subst (Longest h i) (sym w.names-most.ensures) c.loop-i.invariant) own.0 here (sym w.one_begins.ensures ∙ w.if-not-one_begins.false) w.if-most-names.true))
+      | in-Some+else-not-one_begins+else-most-names w ↦
+          let own = pick_some (honest_in h i) (gateway h i) w.in-Some.ensures.told in
+          let here = list_here h i own.1 (w.names-names.ensures ∙ w.of-list.ensures) in
+          subst next (sym w.longest-is)
+          (subst (Longest h (i + 1)) w.names-most.ensures
+          (longest_still (subst (Longest h i) (sym w.names-most.ensures) c.loop-i.invariant) own.0 here (sym w.one_begins.ensures ∙ w.if-not-one_begins.false) w.if-most-names.false))
+      | in_default w ↦ subst next (sym w.longest-is) (longest_silent c.loop-i.invariant (pick_none (honest_in h i) (gateway h i) (sym w.in_default.is ∙ c.honest.ensures.told)))
+    ]
 
 pub returns : goal.returns
-unfolding agree_in
 returns c =
-    let a = c.args in
-    let end : most_gateways ≡ c.loop-i.i = omega arith in
-    sym (ap (λ (k : ℕ). all_below k (ok a.lists.now a.counts a.honest)) end ∙ c.loop-i.invariant.1)
+    let end : c.loop-i.i ≡ most_gateways = omega arith in
+    longest_all (subst (λ (k : ℕ). Longest c.args.h.now k (take c.loop-i.longest.length c.loop-i.longest.room)) end c.loop-i.invariant)

@@ -1,10 +1,9 @@
 -- The set of honest nodes: each number by its bit. Assumes nothing.
-use Prim.Native.Nat.{◌/◌, ◌%◌, ◌^◌}
-use Rattle.hall.proofs.Fresh.{eight}
-use lib.Dec.{eqb}
+use Prim.Native.Nat.{ℕ, ◌/◌, ◌%◌, ◌^◌}
+use Rattle.hall.proofs.Fresh.{made_eight}
+use Rattle.std.proofs.Common.{rules, tests, eqb, false}
+use Rattle.std.proofs.lemmas.Nat.Bits.{shr_and_one}
 use Rattle.hall.proofs.heads.honest_of.Goals as goal
 
 pub returns : goal.returns
-returns c =
-    let set = c.args.set in
-    eight (λ i. eqb (set / 2 ^ i % 2) 1) c.in_set.ensures c.in_set-2.ensures c.in_set-3.ensures c.in_set-4.ensures c.in_set-5.ensures c.in_set-6.ensures c.in_set-7.ensures c.in_set-8.ensures
+returns c = made_eight _ _ (λ (i : ℕ). eqb (c.args.set / 2 ^ i % 2) 1) (λ i x q k. search (rules, tests, shr_and_one)) c.from_fn.result false c.from_fn.ensures.items

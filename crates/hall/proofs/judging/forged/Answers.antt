@@ -1,27 +1,21 @@
--- An honest number below eight, whose rows are asked.
-use Rattle.hall.proofs.Verdicts.{flag_below}
-use Rattle.hall.specs.Book.{shown_in}
-use borrow.Author.Rules.{rules}
-use lib.ListN.{get_or}
-use mathlib.Core.Bool.{Bool, true, false, not, ◌&&◌}
-use mathlib.Core.Path.{◌≡◌, ap, sym, ◌∙◌}
+-- A vote whose honest sender's table doesn't show it. Assumes nothing.
+use Rattle.accord.specs.Head.{gateway, honest_in}
+use Rattle.accord.specs.Rulings.{shows, table_of}
+use Rattle.hall.proofs.Judged.{forged_other, forged_vote}
+use Rattle.hall.proofs.Named.{some_and}
+use Rattle.std.proofs.Common.{rules, tests, ◌∙◌, not}
+use Rattle.table.specs.Rows.{rows}
+use Rattle.table.specs.declared.State.{State}
+use borrow.Author.Tests.{ne_eqb}
 use Rattle.hall.proofs.judging.forged.Goals as goal
-use Rattle.hall.proofs.judging.forged.Goals.{Else-not-honest_at}
 
--- past the test the number is honest
-told : (c : Else-not-honest_at) → get_or c.args.honest c.args.who false ≡ true
-told c = sym c.honest_at.ensures ∙ c.if-not-honest_at.false
+pub returns-then-f : goal.returns-then-f
+unfolding table_of
+returns-then-f c r e =
+    let h = c.args.h.now in
+    let f = c.args.f.now in
+    some_and (honest_in h f.sender.0) (gateway h f.sender.0) (λ (s : State). not (shows (rows s) f.sender.0 f.name)) _ c.honest.ensures.told c.is_some_and.ensures (λ s q. search (rules, tests))
+    ∙ forged_vote c.args.f.now r e h c.if-f.true
 
-pub returns-then-not-honest_at : goal.returns-then-not-honest_at
-returns-then-not-honest_at c =
-    let a = c.args in
-    ap (λ (b : Bool). b && not (shown_in a.book.now a.who a.name)) (sym (sym c.honest_at.ensures ∙ c.if-not-honest_at.true))
-
-pub shown-requires : goal.shown-requires
-shown-requires c =
-    let a = c.args in (c.requires, flag_below a.honest a.who (search rules) (told (goal.at.shown-requires c).Else-not-honest_at))
-
-pub returns : goal.returns
-returns c =
-    let a = c.args in
-    ap not c.shown.ensures ∙ ap (λ (b : Bool). b && not (shown_in a.book.now a.who a.name)) (sym (told (goal.at.returns c).Else-not-honest_at))
+pub returns-else-f : goal.returns-else-f
+returns-else-f c r e = ne_eqb _ _ c.if-f.false ∙ forged_other c.args.f.now r e c.args.h.now c.if-f.false

@@ -1,56 +1,63 @@
 -- The three refusals in their order, and then the loop.
-use Prim.Native.Nat.{ℕ}
-use Rattle.accord.specs.Head.{hall_shaped}
-use Rattle.accord.specs.Text.{sent_bytes}
-use Rattle.hall.proofs.Answered.{sent-count, piece_unshaped, piece_short, piece_over, piece-played}
-use Rattle.hall.specs.Lists.{lists_bytes}
+use Rattle.std.proofs.Common.{ap, sym, ◌∙◌, arith}
+use Rattle.table.specs.Scan.{pick}
+use Rattle.pala.specs.Answers.{answered, number, taken}
 use Rattle.hall.specs.Play.{HallPiece, HallReady}
-use Rattle.hall.specs.declared.pieces.Told.{Told}
-use Rattle.pala.specs.Run.{cut}
-use lib.ListN.{length, length-replicate}
-use mathlib.Core.Bool.{true}
-use mathlib.Core.List.{List}
-use mathlib.Core.Path.{◌≡◌, refl, ap, sym, ◌∙◌}
-use native.Mathlib.Omega.{arith}
+use Rattle.hall.proofs.Answered.{piece_unshaped, piece_short, piece_over, piece_ready, sent-number}
 use Rattle.hall.proofs.pieces.play.Goals as goal
-use Rattle.hall.proofs.pieces.play.Goals.{After-stretch_count-count, Else-count-before}
-
--- what is handed back, with the text that stands in the buffer
-abbrev piece : List ℕ → Told → HallPiece
-piece text x = record { answer = x.answer; hall = x.hall; before = x.before; length = x.length; text = text }
-
-shaped : (c : After-stretch_count-count) → hall_shaped c.args.h ≡ true
-shaped c = sym c.hall_shaped.ensures.0 ∙ c.if-not-hall_shaped.false
-
-many : (c : After-stretch_count-count) → c.stretch_count-count.result ≡ length (cut sent_bytes c.args.input.now)
-many c = c.stretch_count-count.ensures ∙ sym (sent-count c.args.input.now)
+use Rattle.hall.proofs.pieces.play.Goals.{Else-count-before}
 
 -- none of the three refuses
-ready :
-    (c : Else-count-before)
-    → c.stretch_count-count.result ≡ length (cut sent_bytes c.args.input.now) → HallReady c.args.h c.args.before c.args.input.now c.args.text.now
-ready c counted =
-    record { kept = c.hall_shaped.ensures.1 c.if-not-hall_shaped.false; fits = omega arith; number = omega arith }
+ready : (c : Else-count-before) → HallReady c.args.h.now c.args.before.now c.args.input.now c.args.text.now
+ready c =
+    let count = sent-number c.args.input.now c.div_ceil-count.ensures in
+    record { shaped = sym c.hall_shaped.ensures ∙ c.if-not-hall_shaped.false; fits = omega (arith, count); number = omega (arith, count) }
 
 pub returns-then-not-hall_shaped : goal.returns-then-not-hall_shaped
+unfolding answered taken number pick
 returns-then-not-hall_shaped c =
-    ap (piece c.args.text.now) c.handed.ensures
-    ∙ sym (piece_unshaped c.args.h c.args.before c.args.input.now c.args.text.now (sym c.hall_shaped.ensures.0 ∙ c.if-not-hall_shaped.true))
+    let e = piece_unshaped c.args.h.now c.args.before.now c.args.input.now c.args.text.now (sym c.hall_shaped.ensures ∙ c.if-not-hall_shaped.true) in
+    record {
+      answer = ap (λ (p : HallPiece). answered p.answer p.length) (sym e);
+      hall = ap (λ (p : HallPiece). p.hall) (sym e);
+      number = ap (λ (p : HallPiece). p.before) (sym e);
+      text = ap (λ (p : HallPiece). p.text) (sym e);
+    }
 
 pub returns-then-text-count : goal.returns-then-text-count
+unfolding answered taken number pick
 returns-then-text-count c =
-    ap (piece c.args.text.now) c.handed-then-text-count.ensures
-    ∙ sym (piece_short c.args.h c.args.before c.args.input.now c.args.text.now (shaped (goal.at.returns-then-text-count c).After-stretch_count-count) (omega (arith, many (goal.at.returns-then-text-count c).After-stretch_count-count)))
+    let count = sent-number c.args.input.now c.div_ceil-count.ensures in
+    let e = piece_short c.args.h.now c.args.before.now c.args.input.now c.args.text.now (sym c.hall_shaped.ensures ∙ c.if-not-hall_shaped.false) (omega (arith, count)) in
+    record {
+      answer = ap (λ (p : HallPiece). answered p.answer p.length) (sym e);
+      hall = ap (λ (p : HallPiece). p.hall) (sym e);
+      number = ap (λ (p : HallPiece). p.before) (sym e);
+      text = ap (λ (p : HallPiece). p.text) (sym e);
+    }
 
 pub returns-then-count-before : goal.returns-then-count-before
+unfolding answered taken number pick
 returns-then-count-before c =
-    ap (piece c.args.text.now) c.handed-then-count-before.ensures
-    ∙ sym (piece_over c.args.h c.args.before c.args.input.now c.args.text.now (shaped (goal.at.returns-then-count-before c).After-stretch_count-count) (omega (arith, many (goal.at.returns-then-count-before c).After-stretch_count-count)) (omega (arith, many (goal.at.returns-then-count-before c).After-stretch_count-count)))
+    let count = sent-number c.args.input.now c.div_ceil-count.ensures in
+    let e = piece_over c.args.h.now c.args.before.now c.args.input.now c.args.text.now (sym c.hall_shaped.ensures ∙ c.if-not-hall_shaped.false) (omega (arith, count)) (omega (arith, count)) in
+    record {
+      answer = ap (λ (p : HallPiece). answered p.answer p.length) (sym e);
+      hall = ap (λ (p : HallPiece). p.hall) (sym e);
+      number = ap (λ (p : HallPiece). p.before) (sym e);
+      text = ap (λ (p : HallPiece). p.text) (sym e);
+    }
 
 pub play_records-requires : goal.play_records-requires
-play_records-requires c = (ready (goal.at.play_records-requires c).Else-count-before (many (goal.at.play_records-requires c).After-stretch_count-count), refl, length-replicate {A = ℕ} lists_bytes 0)
+play_records-requires c = ready (goal.at.play_records-requires c).Else-count-before
 
 pub returns : goal.returns
+unfolding answered taken number pick
 returns c =
-    c.play_records.ensures
-    ∙ sym (piece-played c.args.h c.args.before c.args.input.now c.args.text.now (shaped (goal.at.returns c).After-stretch_count-count) (ready (goal.at.returns c).Else-count-before (many (goal.at.returns c).After-stretch_count-count)).fits (ready (goal.at.returns c).Else-count-before (many (goal.at.returns c).After-stretch_count-count)).number)
+    let e = piece_ready c.args.h.now c.args.before.now c.args.input.now c.args.text.now (ready (goal.at.returns c).Else-count-before) ∙ sym c.play_records.ensures in
+    record {
+      answer = ap (λ (p : HallPiece). answered p.answer p.length) (sym e);
+      hall = ap (λ (p : HallPiece). p.hall) (sym e);
+      number = ap (λ (p : HallPiece). p.before) (sym e);
+      text = ap (λ (p : HallPiece). p.text) (sym e);
+    }

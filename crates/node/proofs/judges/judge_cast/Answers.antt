@@ -1,44 +1,37 @@
--- Rows 7 to 14 of a cast: each test is a row, passed or refused by. Assumes nothing.
-use Prim.Native.Nat.{ℕ, suc}
-use Rattle.node.proofs.ByKind.{cast_rows, cast-judged}
-use Rattle.node.proofs.Facts.{past_yes, past_no, number, sized}
+-- Rows 7 to 14 of a cast: there is a block to vote for, or none. Assumes nothing.
+use Prim.Native.Nat.{ℕ}
+use Rattle.node.proofs.ByKind.{cast_rows, cast_judged}
 use Rattle.node.proofs.Ways.Through.{refuses, passes, takes}
-use Rattle.node.proofs.Ways.{Through, Past}
-use Rattle.node.specs.Moves.{judged}
-use Rattle.node.specs.declared.Move.{Move}
+use Rattle.node.proofs.Ways.{Through}
+use Rattle.pala.proofs.Tests.{either}
 use Rattle.pala.specs.Answers.{taken}
 use Rattle.pala.specs.Effects.{picked}
-use Rattle.record.specs.Fields.{fields_of}
-use Rattle.table.specs.Rows.{capacity}
+use Rattle.rules.specs.Standing.{chosen}
+use Rattle.std.specs.Option.{ok_or}
+use Rattle.std.specs.Prelude.{Option}
+use Rattle.table.proofs.Laws.{pick_yes, pick_no}
+use Rattle.table.specs.Rows.{rows, size}
 use Rattle.table.specs.declared.Answer.{Answer}
 use Rattle.table.specs.declared.Place.{Place}
 use Rattle.table.specs.declared.State.{State}
-use Rattle.record.specs.declared.Fields.{Fields}
-use borrow.Author.Rules.{rules}
-use lib.ListN.{length}
-use mathlib.Core.List.{List}
-use mathlib.Core.Path.{◌≡◌, refl, ap, ◌∙◌}
+use borrow.Author.Tests.{ltb-true, ltb-false, le-leb, lt-leb}
+use lib.Dec.{ltb}
+use mathlib.Core.Bool.{true, false}
+use mathlib.Core.Logic.{⊎_elim}
+use mathlib.Core.Path.{◌≡◌, refl, sym, ap, subst, ◌∙◌}
 use Rattle.node.proofs.judges.judge_cast.Goals as goal
-use Rattle.node.proofs.judges.judge_cast.Goals.{Else-s-block, Start}
 
-held : (c : Start) → length c.args.s.blocks ≡ suc capacity
-held c = search rules
-
-abbrev To : State → Fields → ℕ → Type 0
-To s f k = Past (cast_rows s f) (picked s) k
-
--- a way through the rows is what they give of the record
-given : (c : Start) (m : Move) → Through (cast_rows c.args.s c.args.f) (picked c.args.s) m → (r : List ℕ) → c.args.f ≡ fields_of r → m ≡ judged c.args.s r
-given c m = cast-judged c.args.s c.args.f m (sized c.args.s c.requires.0 (held c)) c.requires.1
-
-past_1 : (c : Else-s-block) → To c.args.s c.args.f 1
-unfolding picked
-past_1 c m way = passes (past_no (number c.ballot-block.ensures) c.if-s-block.false) way
-
-pub returns-then-s-block : goal.returns-then-s-block
-unfolding taken picked
-returns-then-s-block c r e = c.refused.ensures ∙ given (goal.at.returns-then-s-block c).Start _ (refuses (past_yes (number c.ballot-block.ensures) c.if-s-block.true) refl) r e
+chosen_way : (s : State) → Through (cast_rows s) (picked s) (ok_or (chosen s) Answer.Nothing)
+unfolding chosen picked taken
+chosen_way s =
+    let p : ℕ = picked s in
+    let end : ℕ = size (rows s) in
+    let way = λ (x : Option Place). Through (cast_rows s) (picked s) (ok_or x Answer.Nothing) in
+    ⊎_elim
+    (λ (e : ltb p end ≡ true). subst way (sym (pick_yes (ltb p end) _ _ e)) (passes (lt-leb end p (ltb-true p end e)) takes))
+    (λ (e : ltb p end ≡ false). subst way (sym (pick_no (ltb p end) _ _ e)) (refuses (le-leb end p (ltb-false p end e)) refl))
+    (either (ltb p end))
 
 pub returns : goal.returns
-unfolding picked
-returns c r e = ap (λ (p : Place). record { answer = Answer.Taken; place = p }) c.ballot-block.ensures ∙ given (goal.at.returns c).Start _ (past_1 (goal.at.returns c).Else-s-block _ takes) r e
+returns c r e =
+    c.ok_or.ensures.value ∙ ap (λ (x : Option Place). ok_or x Answer.Nothing) c.ballot.ensures ∙ cast_judged _ _ (chosen_way c.args.s.now) r e

@@ -1,46 +1,47 @@
--- The best of the local epoch and the clocks passed. The measure is the nodes that are left. Assumes nothing.
-use Prim.Native.Nat.{ℕ, max}
-use Rattle.pala.proofs.Clocks.{unshared_above}
-use Rattle.pala.specs.Counts.{clock_of}
-use Rattle.pala.specs.Rules.{shared}
-use Rattle.rules.proofs.Agreed.{agreed-held, best_of}
-use Rattle.table.proofs.Laws.{greatest-step}
-use Rattle.table.specs.Rows.{most_nodes}
-use Rattle.table.specs.Scan.{greatest}
+-- The best of the local epoch and the clocks passed. Assumes nothing.
+use Rattle.std.proofs.Common.{ℕ, ◌<◌, ◌≤◌, arith, ap, sym, max, get_or, ◌∙◌}
+use Rattle.std.proofs.lemmas.Bool.Decides.{nat_tests}
 use Rattle.table.specs.declared.Epoch.{Epoch}
-use lib.ListN.{length}
-use mathlib.Core.Bool.{Bool}
-use mathlib.Core.Path.{◌≡◌, sym, ap, ◌∙◌}
-use native.Mathlib.Omega.{arith}
+use Rattle.table.specs.Scan.{greatest}
+use Rattle.pala.proofs.Clocks.{unshared_above}
+use Rattle.rules.proofs.Agreed.{agreed-of, best_in, turn_raised, turn_stays}
 use Rattle.rules.proofs.clocks.clock_of.Goals as goal
-use Rattle.rules.proofs.clocks.clock_of.Goals.{Start}
+use Rattle.rules.proofs.clocks.clock_of.Goals.{then-lt+then-shared_past-2, else-lt, else-lt-via-then-lt+else-shared_past-2, else-lt-via-else-lt}
 
-held : (c : Start) → length c.args.clocks ≡ most_nodes
-held c = search
-
-pub returns-then-not-shared_past : goal.returns-then-not-shared_past
-returns-then-not-shared_past c =
-    let a = c.args in
-    let few = unshared_above a.n a.clocks a.local.0 (sym c.shared_past.ensures ∙ c.if-not-shared_past.true) in
-    ap (λ (e : ℕ). record { 0 = e }) (omega (arith, few))
-
-pub loop-k-init : goal.loop-k-init
+pub loop-c-init : goal.loop-c-init
 unfolding greatest
-loop-k-init c = (omega arith, omega arith)
+loop-c-init c = omega arith
 
-pub loop-k-preserved : goal.loop-k-preserved
-unfolding clock_of
-loop-k-preserved c =
-    let a = c.args in
-    let ok : ℕ → Bool = λ i. shared a.n a.clocks (clock_of a.clocks i) in (
-      omega arith,
-      best_of _ _ _ _ _ _ c.loop-k.invariant.1 (ap (λ (e : Epoch). e.0) c.better-best.ensures) (greatest-step c.loop-k.k ok (clock_of a.clocks)),
-    )
+pub loop-c-preserved : goal.loop-c-preserved
+loop-c-preserved c =
+    let s = c.args.s.now in
+    let all = c.clocks_of-c-items in
+    let here : ℕ = (get_or all.result.now c.loop-c.c-index (record { 0 = 0 })).0 in
+    let stays = turn_stays s.n s.clocks all.result.now all.ensures.of_nodes c.loop-c.c-index c.loop-c-test.true _ _ c.loop-c.invariant in
+    elim c.if-lt.branch [
+      | then-lt+then-shared_past-2 w ↦
+          let above : c.loop-c.best.0 < here = grind (arith, nat_tests) in
+          ap (λ (e : Epoch). e.0) w.best-is
+          ∙ turn_raised s.n s.clocks all.result.now all.ensures.of_nodes c.loop-c.c-index c.loop-c-test.true _ _ c.loop-c.invariant above
+          (sym w.shared_past-then-lt.ensures ∙ w.if-shared_past-2.true)
+      | else-lt w ↦
+          ap (λ (e : Epoch). e.0) w.best-is
+          ∙ elim w.else-lt.branch [
+            | else-lt-via-then-lt+else-shared_past-2 v ↦ stays (λ _. sym v.shared_past-then-lt.ensures ∙ v.if-shared_past-2.false)
+            | else-lt-via-else-lt v ↦ let low : here ≤ c.loop-c.best.0 = grind (arith, nat_tests) in stays (λ h. absurd (omega arith))
+          ]
+    ]
 
-pub returns : goal.returns
-returns c =
-    let a = c.args in
+pub returns-after-loop-c : goal.returns-after-loop-c
+returns-after-loop-c c =
+    let s = c.args.s.now in
+    let all = c.clocks_of-c-items in
     ap (λ (e : ℕ). record { 0 = e })
-    (c.loop-k.invariant.1
-    ∙ ap (λ (k : ℕ). max a.local.0 (greatest k (λ i. shared a.n a.clocks (clock_of a.clocks i)) (clock_of a.clocks))) (omega arith ∙ c.clocks_held-end.ensures)
-    ∙ ap (max a.local.0) (agreed-held a.clocks (held (goal.at.returns c).Start) a.n))
+    (c.loop-c.invariant
+    ∙ ap (max s.local.0) (ap (best_in s.n s.clocks) (omega arith) ∙ agreed-of s.n s.clocks all.result.now all.ensures.of_nodes))
+
+pub returns-else-shared_past : goal.returns-else-shared_past
+returns-else-shared_past c =
+    let s = c.args.s.now in
+    let few = unshared_above s.n s.clocks s.local.0 (sym c.shared_past.ensures ∙ c.if-shared_past.false) in
+    ap (λ (e : ℕ). record { 0 = e }) (omega (arith, few))

@@ -1,6 +1,6 @@
--- The key of a name: each of its four bytes is below 256, so the sum fits. Assumes nothing.
+-- The key of a name. Assumes nothing.
+use Rattle.std.proofs.Common.{arith}
 use Rattle.shape.specs.Parts.{key}
-use native.Mathlib.Omega.{arith}
 use Rattle.shape.proofs.names.key_of.Goals as goal
 
 pub returns : goal.returns

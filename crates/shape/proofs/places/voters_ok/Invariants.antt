@@ -1,6 +1,5 @@
--- No voter from number n on: so far none was. The measure is what is left of the set. Assumes nothing.
-use Prim.Native.Nat.{◌≤◌, ◌-◌}
-use Rattle.table.specs.Rows.{has_voter, most_nodes}
+-- No voter from number n on: so far none was. Assumes nothing.
+use Rattle.table.specs.Rows.{has_voter}
 use Rattle.table.specs.Scan.{all_below}
 use lib.Dec.{ltb}
 use mathlib.Core.Bool.{◌||◌, not}
@@ -8,7 +7,4 @@ use mathlib.Core.Path.{◌≡◌}
 use Rattle.shape.proofs.places.voters_ok.Given as goal
 
 abbrev pub invariant-loop-k : goal.invariant-loop-k
-invariant-loop-k l = (l.k ≤ most_nodes) × (l.good ≡ all_below l.k (λ i. ltb i l.n || not (has_voter l.b i)))
-
-abbrev pub decreases-loop-k : goal.decreases-loop-k
-decreases-loop-k l = most_nodes - l.k
+invariant-loop-k l = l.good ≡ all_below l.k (λ i. ltb i l.n || not (has_voter l.b i))

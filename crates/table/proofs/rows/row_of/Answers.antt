@@ -1,10 +1,10 @@
 -- The row of a place in the table, else the root's. Assumes nothing.
+use Rattle.std.proofs.Common.{sym}
 use Rattle.table.proofs.Laws.{row_in, row-past}
-use mathlib.Core.Path.{sym}
 use Rattle.table.proofs.rows.row_of.Goals as goal
 
-pub returns-then-k-gt-CAPACITY : goal.returns-then-k-gt-CAPACITY
-returns-then-k-gt-CAPACITY c = sym (row-past _ c.if-k-gt-CAPACITY.true)
+pub returns-then-p-gt-CAPACITY : goal.returns-then-p-gt-CAPACITY
+returns-then-p-gt-CAPACITY c = sym (row-past _ c.if-p-gt-CAPACITY.true)
 
-pub returns : goal.returns
-returns c = sym (row_in _ c.if-k-gt-CAPACITY.false)
+pub returns-else-p-gt-CAPACITY : goal.returns-else-p-gt-CAPACITY
+returns-else-p-gt-CAPACITY c = sym (row_in _ c.if-p-gt-CAPACITY.false)

@@ -4,4 +4,4 @@ use Rattle.table.proofs.states.plain.Goals as goal
 
 pub returns : goal.returns
 unfolding plain
-returns c = rw c.blank-row.ensures
+returns c = rw c.blank.ensures

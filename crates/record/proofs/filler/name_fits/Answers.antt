@@ -1,8 +1,0 @@
--- A name is used, or zero. Assumes nothing.
-use Rattle.table.specs.Bytes.{zeros}
-use mathlib.Core.Bool.{Bool, ◌||◌}
-use mathlib.Core.Path.{◌∙◌, sym, ap}
-use Rattle.record.proofs.filler.name_fits.Goals as goal
-
-pub returns : goal.returns
-returns c = c.zero_name.ensures ∙ sym (ap (λ (t : Bool). t || zeros c.args.name) c.if-used.false)

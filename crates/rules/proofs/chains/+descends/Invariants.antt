@@ -1,5 +1,0 @@
--- The place is the measure. Assumes nothing.
-use Rattle.rules.proofs.chains.+descends.Given as goal
-
-abbrev pub decreases-descends : goal.decreases-descends
-decreases-descends l = l.p.0
