@@ -8,6 +8,7 @@ use table::{Epoch, NODES, ROWS, State};
 const FIRST_PLACE: usize = 1;
 
 // What is changed, by two numbers, `at` and `to`. Past the end of a table, a set or an array its places start over.
+// The two are the script's, and mean another thing to each change.
 #[derive(Clone, Copy)]
 pub enum Harm {
     // Field `at` of those beside table and clocks is `to`.

@@ -22,6 +22,7 @@ const FULL_LIST: usize = LIST_BYTES;
 const REFUSAL: u64 = 65536;
 
 // Every record is put to the newest state: "Refused records are passed over".
+// It changes the state, so the shape is a condition, as `take_shaped`'s.
 fn play(s: &mut State, records: &[u8])
     requires { well_shaped s.old ≡ true }
     ensures state { s.new ≡ played s.old (stretches records.now) }

@@ -51,6 +51,7 @@ fn play_record(h: &mut Hall, word: &mut bool, to: usize, rec: &[u8]) -> Verdict
 }
 
 // "After each record the program prints its number, the answer and yes or no"
+// Put by `lines`, and no `write!`, as its `text` says.
 fn put_said(text: &mut [u8], at: usize, k: u64, told: u32, word: bool) -> usize
     ensures { ◌≡◌ {A = Lined} (record { length = result; text = text.new }) (worded_at k told (pick word yes_word no_word) at text.old) }
 {

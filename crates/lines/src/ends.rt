@@ -1,4 +1,4 @@
-// The only line of a refused recording, and the last line of any other.
+// The only line of a refused recording, and the last line of any other; by `Line`, and no `write!`, as its head says.
 
 ghost use Rattle.std.specs.Prelude.{◌≡◌, ◌≤◌, [], ◌∷◌, ◌++◌, length};
 ghost use Rattle.pala.specs.Lines.{digits, end_line, new_line, setup_line};

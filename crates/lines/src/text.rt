@@ -8,6 +8,7 @@ pub const SPACE: u8 = b' ';
 
 pub const NEW_LINE: u8 = b'\n';
 
+// A number's digits are decimal; `cases` has a ten of its own for the digits that it reads.
 const TEN: u64 = 10;
 
 // A lent buffer, and the index past what is written so far.

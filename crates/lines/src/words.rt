@@ -1,4 +1,4 @@
-// A line of two numbers and a word, which a hall's text is made of.
+// A line of two numbers and a word, which a hall's text is made of; by `Line`, and no `write!`, as its head says.
 
 ghost use Rattle.std.specs.Prelude.{◌≡◌, length};
 ghost use Rattle.lines.specs.Text.{Lined, worded_at};

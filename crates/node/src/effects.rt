@@ -26,6 +26,7 @@ fn new_block(f: &Fields, epoch: Epoch, parent: Place) -> Block
 }
 
 // The direct effect of a record that is taken. The rows' number is the type's, told for those that cite it of a lent state.
+// The shape is a condition, as `take_shaped`'s.
 pub fn apply(s: &mut State, f: &Fields, place: Place)
     requires shaped { well_shaped s.old ≡ true }
     requires granted { (r : List ℕ) × Granted s.old f.now place r }

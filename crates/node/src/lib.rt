@@ -61,7 +61,7 @@ pub fn start(n: u32, own: u32) -> Reply
     }
 }
 
-// A record judged on a well-shaped state, for loops that lend 96 bytes to send into.
+// A record judged on a well-shaped state, as with 96 bytes lent to send into.
 pub fn decide_shaped(s: &Shaped<'_>, rec: &[u8]) -> Decision
     ensures { result ≡ decision s.now rec.now }
 {
@@ -77,6 +77,7 @@ pub fn decide_shaped(s: &Shaped<'_>, rec: &[u8]) -> Decision
 }
 
 // The state after a record: where it is taken, the direct effect and then the five steps; "Otherwise .. the same".
+// It changes the state, so the shape is a condition: `&mut State` can't be lent as a `Shaped`.
 pub fn take_shaped(s: &mut State, d: &Decision)
     requires { (well_shaped s.old ≡ true) × ((r : List ℕ) × (d.now ≡ decision s.old r)) }
     ensures step { (r : List ℕ) → d.now ≡ decision s.old r → s.new ≡ (step s.old r lent).state }

@@ -30,6 +30,7 @@ fn own_record(kind: Kind, own: NodeNo) -> Fields
 }
 
 // Writes what a record that is taken has the node send; "Every other answer leaves the out buffer's bytes unchanged."
+// Its conditions are `take_shaped`'s, which is called with the same two.
 pub fn send(s: &State, d: &Decision, out: &mut [u8])
     requires shaped { well_shaped s.now ≡ true }
     requires decided { (r : List ℕ) × (d.now ≡ decision s.now r) }
