@@ -26,7 +26,7 @@ use Rattle.accord.specs.Head.{Opened, most_gateways, gateways, nodes_of, in_set,
 use Rattle.accord.specs.Text.{hall_played}
 use Rattle.accord.proofs.Halls.{for_each, good_head_lem, fresh-gateway, fresh_honest}
 use Rattle.hall.proofs.Named.{pick_none, pick_some}
-use Rattle.hall.proofs.Seated.{low_test, hall_sound, kept-played}
+use Rattle.hall.proofs.Seated.{low_test, hall_sound, hall-kept, kept-played, kept-shaped}
 
 -- ---- something for each of the eight numbers
 
@@ -150,12 +150,12 @@ pub played-shaped : (bytes : List ℕ) → good_head bytes ≡ true → (xs : Li
 unfolding fresh_hall
 played-shaped bytes good xs =
     let w = good_head_lem bytes good in
-    (kept-played (fresh_hall bytes)
-    (record {
-      shaped = opened-shaped bytes good;
-      places = λ i l. ap (λ (s : State). length s.blocks) (fresh-gateway bytes i (omega (arith, w.most))) ∙ (start-sized (nodes_of bytes) i).blocks;
-    })
-    refl xs).shaped
+    kept-shaped
+    (kept-played
+    (hall-kept (fresh_hall bytes) refl refl
+    (λ i l. ap (λ (s : State). length s.blocks) (fresh-gateway bytes i (omega (arith, w.most))) ∙ (start-sized (nodes_of bytes) i).blocks)
+    (opened-shaped bytes good))
+    xs)
 
 -- a refused head opens none that is well shaped
 pub no_hall_unshaped : hall_shaped no_hall ≡ false

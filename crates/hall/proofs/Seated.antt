@@ -8,14 +8,14 @@ use native.Mathlib.Decide.{dec_lt, ℕ_discrete}
 use native.Mathlib.Omega.{arith}
 use borrow.Author.Tests.{leb-true, le-leb, not-true}
 use lib.Dec.{ltb, leb}
-use lib.ListN.{length, get_or, take, drop, length-drop, get_or-eq_default}
+use lib.ListN.{length, get_or, take, drop, length-drop, length-set, get_or-eq_default}
 use lib.Seq.{get_or-take, get_or-drop, length-take-le}
 use Rattle.std.proofs.lemmas.List.Folds.{list_all_at}
 use Rattle.std.specs.List.{list_all}
 use Rattle.table.specs.declared.State.{State}
 use Rattle.table.specs.Rows.{all_zero, capacity, plain}
 use Rattle.table.specs.Scan.{all_below}
-use Rattle.table.proofs.Laws.{not_both, pick-case, same_test, get_d_any, all_below-at, all_below_all}
+use Rattle.table.proofs.Laws.{fails, not_both, pick-case, same_test, get_d_any, all_below-at, all_below_all}
 use Rattle.pala.specs.Counts.{nodes}
 use Rattle.pala.specs.Run.{lent}
 use Rattle.pala.specs.Shape.{well_shaped}
@@ -161,40 +161,74 @@ module _ (h : Hall) (e : hall_shaped h ≡ true) (i : ℕ) (l : i < h.n) (t : St
 
 -- ---- a recording
 
--- a well-shaped hall whose states have their 65 rows
+-- eight seats, the honest numbers below n, and every gateway's state well shaped, with its 65 rows
 pub record Kept (h : Hall) : Type 0 where
-  pub shaped : hall_shaped h ≡ true
+  pub seats : length h.states ≡ most_gateways
+  pub flags : length h.honest ≡ most_gateways
+  pub some : 1 ≤ h.n
+  pub most : h.n ≤ most_gateways
+  pub low : (i : ℕ) → honest_in h i ≡ true → i < h.n
   pub places : (i : ℕ) → i < h.n → length (gateway h i).blocks ≡ suc capacity
+  pub shaped : (i : ℕ) → i < h.n → well_shaped (gateway h i) ≡ true
 
--- a state that a gateway's step gives
-module _ {h : Hall} (k : Kept h) (i : ℕ) (l : i < h.n) (r : List ℕ) where
-  abbrev next : State
-  next = (step (gateway h i) r lent).state
+-- a well-shaped hall, in memory that has room for eight states of 65 rows
+pub hall-kept : (h : Hall) → length h.states ≡ most_gateways
+    → length h.honest ≡ most_gateways
+    → ((i : ℕ) → i < h.n → length (gateway h i).blocks ≡ suc capacity)
+    → hall_shaped h ≡ true
+    → Kept h
+hall-kept h seats flags places e =
+    record {
+      seats = seats;
+      flags = flags;
+      some = shaped_some h e;
+      most = shaped_most h e;
+      low = λ i y. honest_low h e i (honest_below h i flags y) y;
+      places = places;
+      shaped = shaped_gateway h e;
+    }
 
-  kept_step : Kept (seated h i next)
-  unfolding seated
-  kept_step =
-      let p = step_playable (gateway h i) r lent (record { places = k.places i l; shaped = shaped_gateway h k.shaped i l }) in
+module _ {h : Hall} (k : Kept h) where
+  -- and the other way
+  pub kept-shaped : hall_shaped h ≡ true
+  kept-shaped =
+      hall_sound h k.some k.most (Shapes.from_all most_gateways h.n (λ i. not (honest_in h i)) (λ i m _. ap not (fails (honest_in h i) (λ y. omega (arith, k.low i y)))))
+      ∙ all_below_all h.n (λ i. well_shaped (gateway h i)) k.shaped
+
+  pub kept-seated : (i : ℕ) → i < h.n → (t : State) → length t.blocks ≡ suc capacity → well_shaped t ≡ true → Kept (seated h i t)
+  unfolding seated honest_in
+  kept-seated i l t places shaped =
+      let seat : i < length h.states = omega (arith, k.most, k.seats) in
       record {
-        shaped = shaped_seated h k.shaped i l next p.shaped;
-        places = λ j m. seated_case (λ s. length s.blocks ≡ suc capacity) h i next (seat_there h k.shaped i l) p.places j (k.places j m);
+        seats = length-set h.states i t ∙ k.seats;
+        flags = k.flags;
+        some = k.some;
+        most = k.most;
+        low = k.low;
+        places = λ j m. seated_case (λ s. length s.blocks ≡ suc capacity) h i t seat places j (k.places j m);
+        shaped = λ j m. seated_case (λ s. well_shaped s ≡ true) h i t seat shaped j (k.shaped j m);
       }
 
--- the hall after a record, taken or not
-kept-after : {h : Hall} → Kept h → (to : ℕ) (r : List ℕ) → length h.honest ≡ most_gateways → Kept (hall_after h to r)
-unfolding hall_after
-kept-after {h} k to r flags =
-    pick-case Kept (passes (verdict h to r)) (seated h to (step (gateway h to) r lent).state) h
-    (λ e. let y = (allowed h to r e).honest in kept_step k to (honest_low h k.shaped to (honest_below h to flags y) y) r) (λ _. k)
+  -- a state that a gateway's step gives
+  pub kept_step : (i : ℕ) → i < h.n → (r out : List ℕ) → Kept (seated h i (step (gateway h i) r out).state)
+  kept_step i l r out =
+      let next = step_playable (gateway h i) r out (record { places = k.places i l; shaped = k.shaped i l }) in
+      kept-seated i l (step (gateway h i) r out).state next.places next.shaped
 
-flags_after : (h : Hall) → length h.honest ≡ most_gateways → (to : ℕ) (r : List ℕ) → length (hall_after h to r).honest ≡ most_gateways
-unfolding hall_after seated
-flags_after h flags to r =
-    pick-case (λ g. length g.honest ≡ most_gateways) (passes (verdict h to r)) (seated h to (step (gateway h to) r lent).state) h (λ _. flags) (λ _. flags)
+  -- the hall after a record, taken or not
+  pub kept-after : (to : ℕ) (r : List ℕ) → Kept (hall_after h to r)
+  unfolding hall_after
+  kept-after to r =
+      pick-case Kept (passes (verdict h to r)) (seated h to (step (gateway h to) r lent).state) h
+      (λ e. kept_step to (k.low to (allowed h to r e).honest) r lent) (λ _. k)
 
--- and after all of a recording
-pub kept-played : (h : Hall) → Kept h → length h.honest ≡ most_gateways → (xs : List (List ℕ)) → Kept (hall_played h xs)
+-- what each record leaves true, all of them do
+played_case :
+    (P : Hall → Type 0) → ((h : Hall) (to : ℕ) (r : List ℕ) → P h → P (hall_after h to r))
+    → (xs : List (List ℕ)) (h : Hall) → P h → P (hall_played h xs)
 unfolding hall_played
-kept-played h k flags [] = k
-kept-played h k flags (x ∷ xs) =
-    kept-played (hall_after h (receiver_of x) (record_of x)) (kept-after k (receiver_of x) (record_of x) flags) (flags_after h flags (receiver_of x) (record_of x)) xs
+played_case P on [] h p = p
+played_case P on (x ∷ xs) h p = played_case P on xs (hall_after h (receiver_of x) (record_of x)) (on h (receiver_of x) (record_of x) p)
+
+pub kept-played : {h : Hall} → Kept h → (xs : List (List ℕ)) → Kept (hall_played h xs)
+kept-played {h} k xs = played_case Kept (λ g to r j. kept-after j to r) xs h k

@@ -1,6 +1,6 @@
 -- Two final lists side by side: how many names agree, the relation, the tail. Assumes nothing.
 use Rattle.std.proofs.lemmas.Bool.{true_from_ne_false}
-use Rattle.std.proofs.Common.{MatchOption, Option, Some, None, nat_eq}
+use Rattle.std.proofs.Common.{Option, Some, None}
 use Prim.Native.Nat.{ℕ, zero, suc, ◌+◌, ◌-◌, ◌*◌, ◌/◌, ◌%◌, ◌≤◌, ◌<◌, min, zero-le}
 use mathlib.Core.Bool.{true, false, not, ◌&&◌, and-eq-true_iff}
 use mathlib.Core.List.{List, [], ◌++◌, append-nil}
@@ -10,14 +10,13 @@ use native.Mathlib.Decide.{dec_lt}
 use native.Mathlib.Omega.{arith}
 use borrow.Author.Tests.{ltb-true, ltb-false, lt-ltb, le-ltb, eq-eqb, ne_eqb, eqb-true, eqb-false, not-false}
 use lib.Dec.{eqb, ltb}
-use lib.Pointwise.{pointwise}
 use lib.ListN.{length, take, drop, length-drop, take-append-drop}
-use lib.Seq.{take-add, take_all, take-length, take-append-le, drop-append-le}
+use lib.Seq.{length-take-le, take-add, take_all, take-length, take-append-le, drop-append-le}
 use Rattle.table.specs.Scan.{pick}
 use Rattle.table.specs.Bytes.{same}
 use Rattle.table.specs.Rows.{name_bytes}
 use Rattle.table.specs.declared.Relation.{Relation}
-use Rattle.table.proofs.Laws.{pick_yes, pick_no, pick-case, not_both, lowest-is, lowest_none, lowest-le, lowest_below, same_refl, same_true, pointwise-same}
+use Rattle.table.proofs.Laws.{pick_yes, pick_no, pick-case, not_both, lowest-is, lowest_none, lowest-le, lowest_below, same_refl, same_true}
 use Rattle.pala.specs.Lists.{name_at, agreeing, broken, relation, relation_number, relation_index, tail, tail_of}
 use Rattle.pala.specs.Safety.{Begins}
 use Rattle.lists.specs.Tails.{past, tail_start}
@@ -26,6 +25,10 @@ use Rattle.lists.specs.Tails.{past, tail_start}
 
 abbrev pub name_from : List ℕ → ℕ → List ℕ
 name_from a from = take name_bytes (drop from a)
+
+pub name-length : (a : List ℕ) (k : ℕ) → name_bytes * k + name_bytes ≤ length a → length (name_at a k) ≡ name_bytes
+unfolding name_at
+name-length a k l = length-take-le name_bytes (drop (name_bytes * k) a) (omega (arith, length-drop (name_bytes * k) a))
 
 -- ---- how many names agree
 
@@ -47,19 +50,19 @@ pub agreeing-le : (a b : List ℕ) → agreeing a b ≤ in_both a b
 unfolding agreeing
 agreeing-le a b = lowest-le (in_both a b) (λ i. not (same (name_at a i) (name_at b i)))
 
--- what a search for the first name that differs finds
-pub fork-is : (a b : List ℕ) (n : ℕ) → n ≡ in_both a b
-    → (r : Option ℕ)
-    → MatchOption r ((k : ℕ) → 0 ≤ k → k < n → pointwise nat_eq (name_at a k) (name_at b k) ≡ true)
-    (λ i. (0 ≤ i) × (i < n) × (pointwise nat_eq (name_at a i) (name_at b i) ≡ false) × ((k : ℕ) → 0 ≤ k → k < i → pointwise nat_eq (name_at a k) (name_at b k) ≡ true))
-    → r ≡ pick (ltb (agreeing a b) (in_both a b)) (Some (agreeing a b)) None
+-- what a search for the first name that differs finds: one that does ..
+pub fork_at : (a b : List ℕ) (k : ℕ) → k < in_both a b → same (name_at a k) (name_at b k) ≡ false → ((i : ℕ) → i < k → same (name_at a i) (name_at b i) ≡ true) → Some k ≡ pick (ltb (agreeing a b) (in_both a b)) (Some (agreeing a b)) None
 unfolding name_at
-fork-is a b n e None h =
-    let all : agreeing a b ≡ in_both a b = agreeing_all a b (λ i l. sym (pointwise-same (name_at a i) (name_at b i)) ∙ h i zero-le (omega arith)) in
+fork_at a b k l differ agree =
+    let here : agreeing a b ≡ k = agreeing-is a b k l differ agree in
+    ap (λ (i : ℕ). Some i) (sym here) ∙ sym (pick_yes (ltb (agreeing a b) (in_both a b)) (Some (agreeing a b)) None (lt-ltb (agreeing a b) (in_both a b) (omega arith)))
+
+-- .. or none
+pub no_fork : (a b : List ℕ) → ((i : ℕ) → i < in_both a b → same (name_at a i) (name_at b i) ≡ true) → None ≡ pick (ltb (agreeing a b) (in_both a b)) (Some (agreeing a b)) None
+unfolding name_at
+no_fork a b agree =
+    let all : agreeing a b ≡ in_both a b = agreeing_all a b agree in
     sym (pick_no (ltb (agreeing a b) (in_both a b)) (Some (agreeing a b)) None (le-ltb (agreeing a b) (in_both a b) (omega arith)))
-fork-is a b n e (Some i) h =
-    let here : agreeing a b ≡ i = agreeing-is a b i (omega (arith, h.1)) (sym (pointwise-same (name_at a i) (name_at b i)) ∙ h.2) (λ k l. sym (pointwise-same (name_at a k) (name_at b k)) ∙ h.3 k zero-le l) in
-    ap (λ (k : ℕ). Some k) (sym here) ∙ sym (pick_yes (ltb (agreeing a b) (in_both a b)) (Some (agreeing a b)) None (lt-ltb (agreeing a b) (in_both a b) (omega (arith, h.1))))
 
 -- and what it tells
 pub fork_some : (g n k : ℕ) → Some k ≡ pick (ltb g n) (Some g) None → (g ≡ k) × (k < n)

@@ -13,15 +13,15 @@ use Rattle.table.specs.declared.State.{State}
 use Rattle.table.specs.Scan.{pick}
 use Rattle.table.specs.Rows.{capacity, name_bytes, payload_bytes, blank, rows, size, at}
 use Rattle.table.proofs.Laws.{pick_yes, pick_no, pick-case, at_rows, at-past}
-use Rattle.pala.specs.Answers.{taken, lowest_of, all_rows}
+use Rattle.pala.specs.Answers.{taken, lowest_of, shaped_rows, all_rows}
 use Rattle.pala.specs.Counts.{no_name, no_payload}
 use Rattle.pala.specs.Effects.{picked, sent}
 use Rattle.pala.specs.Record.{record_bytes, name_of, payload_of, is, low_first, message, proposal_heard, vote_heard, clock_heard, propose_now, cast_now, minute_up}
 use Rattle.pala.specs.Rules.{freshest}
-use Rattle.pala.specs.Step.{outcome, room, step}
+use Rattle.pala.specs.Step.{outcome, room, step_shaped, step}
 use Rattle.pala.proofs.Sized.{RowSized}
 use Rattle.pala.proofs.Shapes.{shaped-count}
-use Rattle.pala.proofs.Moves.{name-length, payload-length}
+use Rattle.pala.proofs.Moves.{passed, name-length, payload-length, record_length}
 use Rattle.pala.proofs.Keeps.{Proper, size_proper}
 
 pub message-length :
@@ -57,6 +57,12 @@ module _ (s : State) (k : Proper s) where
       (λ _. message-length vote_heard s.own.0 0 (at (rows s) (picked s)).name no_name no_payload (at-sized (picked s)).name blank-name blank-payload)
       (λ _. pick-case Whole (is minute_up r) _ _
       (λ _. message-length clock_heard s.own.0 (s.local.0 + 1) no_name no_name no_payload blank-name blank-name blank-payload) (λ _. f)))
+
+  pub out-length : (r out : List ℕ) → length out ≡ record_bytes → length (step_shaped room s r out).out ≡ record_bytes
+  unfolding step_shaped outcome
+  out-length r out f =
+      pick-case (λ (x : List ℕ). length x ≡ record_bytes) (taken (lowest_of (shaped_rows room s r out))) (sent s r out) out
+      (λ a. sent-length r out (record_length r out (passed room s r out a).lengths) f) (λ _. f)
 
 -- the name in a record that is sent
 pub name-sent : (kind sender epoch : ℕ) (name : List ℕ) → length name ≡ name_bytes

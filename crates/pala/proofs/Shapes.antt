@@ -179,6 +179,13 @@ module _ (b : Block) where
         parent = eqb-true b.parent.0 0 z;
       }
 
+  pub blank_of : Blank-tests → is_blank b ≡ true
+  unfolding is_blank
+  blank_of t =
+      let y = eq-eqb b.epoch.0 0 t.epoch in
+      let z = eq-eqb b.parent.0 0 t.parent in
+      search and_both
+
   -- a row of zeros, of a row's length, is the blank one
   pub blank-is : is_blank b ≡ true → length b.name ≡ name_bytes → length b.payload ≡ payload_bytes → length b.voters ≡ most_nodes → b ≡ blank
   unfolding blank

@@ -4,15 +4,28 @@ use borrow.Rule.Slice.PartMut.{put_mid, same_len_mid}
 use Rattle.std.proofs.lemmas.Slice.{take-put_mid}
 use Rattle.std.specs.Int.{from_le_bytes, w32}
 use Rattle.std.proofs.lemmas.Nat.{from_le_bytes-to_le_bytes_4}
-use mathlib.Core.List.{List, [], ◌∷◌, ◌++◌, append_assoc}
+use mathlib.Core.Bool.{Bool, ◌&&◌, and-true}
+use mathlib.Core.List.{List, [], ◌∷◌, ◌++◌, append_assoc, append-nil}
 use mathlib.Core.Path.{◌≡◌, refl, sym, ap, ◌∙◌}
 use native.Mathlib.Omega.{arith}
-use lib.ListN.{length, get_or, take, drop, length-append, length-drop}
-use lib.Seq.{length-take-le, take_all, take_at, drop_at, drop-cons}
+use borrow.Author.Tests.{eqb-true, eq-eqb}
+use lib.Dec.{eqb}
+use lib.ListN.{length, get_or, take, drop, length-append, length-drop, drop_of_length-le}
+use lib.Seq.{paste, take-length, length-take-le, take_all, take_at, drop_at, drop-cons}
+use Rattle.table.specs.Bytes.{zeros}
 use Rattle.table.specs.Rows.{name_bytes, payload_bytes}
-use Rattle.pala.specs.Record.{record_bytes, kind_of, sender_of, epoch_of, name_of, parent_name_of, payload_of, low_first, message}
+use Rattle.table.proofs.Laws.{same_test, zeros_true}
+use Rattle.pala.specs.Record.{record_bytes, kind_of, sender_of, epoch_of, epoch_field, name_of, parent_name_of, payload_of, spare, low_first, message}
 
 -- ---- bytes copied
+
+-- what is copied over a whole list of its length stands in its place
+pub copied_whole : (d s : List ℕ) → length d ≡ length s → paste d 0 s (length s) ≡ s
+copied_whole d s e =
+    let past : length d ≤ 0 + length s = omega arith in
+    ap (λ (l : List ℕ). l ++ drop (0 + length s) d) (take-length s)
+    ∙ ap (λ (l : List ℕ). s ++ l) (drop_of_length-le d past)
+    ∙ append-nil s
 
 -- a buffer of 96 bytes that begins with these, up to an index
 abbrev Begins : List ℕ → ℕ → List ℕ → Type 0
@@ -40,12 +53,53 @@ written k s e n d b₀ b₁ b₂ b₃ b₄ first epoch name parent payload l w�
 
 -- ---- the fields of a record
 
--- the epoch, from its four bytes
-pub epoch_read : (r : List ℕ) → length r ≡ record_bytes → (bytes : List ℕ) (e : ℕ) → bytes ≡ take 4 (drop 4 r) → e ≡ from_le_bytes w32 bytes → e ≡ epoch_of r
+-- "2 and 3 zero"
+pub spare-zero : (r : List ℕ) → length r ≡ record_bytes → zeros (spare r) ≡ (eqb (get_or r 2 0) 0 && eqb (get_or r 3 0) 0)
+unfolding spare zeros
+spare-zero r h =
+    ap (λ (l : List ℕ). zeros (take 2 l)) (drop-cons r 2 0 (omega arith) ∙ ap (λ (l : List ℕ). get_or r 2 0 ∷ l) (drop-cons r 3 0 (omega arith)))
+    ∙ ap (λ (t : Bool). eqb (get_or r 2 0) 0 && t) (and-true (eqb (get_or r 3 0) 0))
+
+-- four bytes are zero exactly where their number is
+pub four_zero : (a b c d : ℕ) → zeros (a ∷ b ∷ c ∷ d ∷ []) ≡ eqb (a + 256 * b + 65536 * c + 16777216 * d) 0
+unfolding zeros
+four_zero a b c d =
+    same_test (zeros (a ∷ b ∷ c ∷ d ∷ [])) (eqb (a + 256 * b + 65536 * c + 16777216 * d) 0)
+    (λ z.
+    let all : a ∷ b ∷ c ∷ d ∷ [] ≡ 0 ∷ 0 ∷ 0 ∷ 0 ∷ [] = zeros_true (a ∷ b ∷ c ∷ d ∷ []) z in
+    let a0 : a ≡ 0 = cc in
+    let b0 : b ≡ 0 = cc in
+    let c0 : c ≡ 0 = cc in
+    let d0 : d ≡ 0 = cc in
+    eq-eqb (a + 256 * b + 65536 * c + 16777216 * d) 0 (omega arith))
+    (λ z.
+    let sum = eqb-true (a + 256 * b + 65536 * c + 16777216 * d) 0 z in
+    let a0 : a ≡ 0 = omega arith in
+    let b0 : b ≡ 0 = omega arith in
+    let c0 : c ≡ 0 = omega arith in
+    let d0 : d ≡ 0 = omega arith in
+    rw (a0, b0, c0, d0))
+
+-- the four bytes of the epoch, one by one
+epoch_four : (r : List ℕ) → length r ≡ record_bytes → epoch_field r ≡ get_or r 4 0 ∷ get_or r 5 0 ∷ get_or r 6 0 ∷ get_or r 7 0 ∷ []
+unfolding epoch_field
+epoch_four r l =
+    ap (take 4) (drop-cons r 4 0 (omega arith) ∙ ap (λ t. get_or r 4 0 ∷ t) (drop-cons r 5 0 (omega arith) ∙ ap (λ t. get_or r 5 0 ∷ t) (drop-cons r 6 0 (omega arith) ∙ ap (λ t. get_or r 6 0 ∷ t) (drop-cons r 7 0 (omega arith)))))
+
+pub epoch-zero : (r : List ℕ) → length r ≡ record_bytes → zeros (epoch_field r) ≡ eqb (epoch_of r) 0
 unfolding epoch_of
-epoch_read r l bytes e h w =
-    let four : take 4 (drop 4 r) ≡ get_or r 4 0 ∷ get_or r 5 0 ∷ get_or r 6 0 ∷ get_or r 7 0 ∷ [] = ap (take 4) (drop-cons r 4 0 (omega arith) ∙ ap (λ t. get_or r 4 0 ∷ t) (drop-cons r 5 0 (omega arith) ∙ ap (λ t. get_or r 5 0 ∷ t) (drop-cons r 6 0 (omega arith) ∙ ap (λ t. get_or r 6 0 ∷ t) (drop-cons r 7 0 (omega arith))))) in
-    w ∙ ap (from_le_bytes w32) (h ∙ four) ∙ omega arith
+epoch-zero r h = ap zeros (epoch_four r h) ∙ four_zero (get_or r 4 0) (get_or r 5 0) (get_or r 6 0) (get_or r 7 0)
+
+-- the epoch, from its four bytes
+pub epoch_read : (r : List ℕ) (a b c d : ℕ) → a ≡ get_or r 4 0 → b ≡ get_or r 5 0 → c ≡ get_or r 6 0 → d ≡ get_or r 7 0 → a + 256 * b + 65536 * c + 16777216 * d ≡ epoch_of r
+unfolding epoch_of
+epoch_read r a b c d ha hb hc hd = omega arith
+
+-- .. as they are read together
+pub epoch_bytes : (r : List ℕ) → length r ≡ record_bytes → (bytes : List ℕ) (e : ℕ) → bytes ≡ take 4 (drop 4 r) → e ≡ from_le_bytes w32 bytes → e ≡ epoch_of r
+unfolding epoch_field
+epoch_bytes r l bytes e h w =
+    w ∙ ap (from_le_bytes w32) (h ∙ epoch_four r l) ∙ omega (arith, epoch_read r (get_or r 4 0) (get_or r 5 0) (get_or r 6 0) (get_or r 7 0) refl refl refl refl)
 
 -- ---- the fields of a message
 

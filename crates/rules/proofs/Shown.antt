@@ -111,13 +111,17 @@ module _ (s : State) where
         ap (λ (k : ℕ). R k (up_in c) (epoch_in c) (mark_in c)) most ∙ shown R
 
     -- the lowest place that may be voted for, of the columns
-    pub ballot-shown : (let p : ℕ = lowest c.size (votable_by (up_in c) (epoch_in c) (mark_in c) s.local.0 s.bar.0 s.voted.0) in pick (ltb p c.size) (Some (record { 0 = p })) None) ≡ chosen s
-    unfolding chosen votable_by ballot votable firm_by firm notarized line parent_of
-    ballot-shown =
-        shown
-        (λ k up epoch mark.
-        let p : ℕ = lowest k (votable_by up epoch mark s.local.0 s.bar.0 s.voted.0) in
-        pick (ltb p k) (Some (record { 0 = p })) None)
+    pub ballot-shown : (local bar voted : ℕ) → lowest c.size (votable_by (up_in c) (epoch_in c) (mark_in c) local bar voted) ≡ ballot s.n (rows s) local bar voted
+    unfolding votable_by ballot votable firm_by firm notarized line parent_of
+    ballot-shown local bar voted = shown (λ k up epoch mark. lowest k (votable_by up epoch mark local bar voted))
+
+    -- .. and as an Option, at the state's own
+    pub chosen-shown : (let p : ℕ = lowest c.size (votable_by (up_in c) (epoch_in c) (mark_in c) s.local.0 s.bar.0 s.voted.0) in pick (ltb p c.size) (Some (record { 0 = p })) None) ≡ chosen s
+    unfolding chosen
+    chosen-shown =
+        let own = ballot-shown s.local.0 s.bar.0 s.voted.0 in
+        let long : c.size ≡ size (rows s) = shown (λ k _ _ _. k) in
+        λ i. pick (ltb (own i) (long i)) (Some (record { 0 = own i })) None
 
     -- the freshest block and its epoch
     pub top_shown : (tops : Tops) → tops ≡ tops_by (min c.size places) (up_in c) (epoch_in c) (mark_in c)

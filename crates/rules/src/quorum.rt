@@ -7,5 +7,7 @@ ghost use Rattle.pala.specs.Counts.{quorum};
 pub fn enough(votes: u32, n: u32) -> bool
     ensures { result ≡ leb (quorum n) votes }
 {
-    3 * u64::from(votes) >= 2 * u64::from(n)
+    let votes = u64::from(votes);
+    let nodes = u64::from(n);
+    3 * votes >= 2 * nodes
 }

@@ -1,6 +1,6 @@
 -- What the in-between forms have to do with the definitions of the shape, and the loops with their scans. Assumes nothing.
 use Prim.Native.Nat.{ℕ, zero, suc, ◌+◌, ◌-◌, ◌%◌, ◌≤◌, ◌<◌, zero-le}
-use mathlib.Core.Bool.{Bool, true, false, not, ◌&&◌, ◌||◌, and_assoc, and-true, true≢false}
+use mathlib.Core.Bool.{Bool, true, false, not, ◌&&◌, ◌||◌, and_assoc, and-true, or-true, true≢false}
 use mathlib.Core.List.{List, [], ◌∷◌, map}
 use mathlib.Core.Logic.{◌⊎◌, inl, inr, ⊎_elim}
 use mathlib.Core.Path.{◌≡◌, refl, sym, ap, ◌∙◌}
@@ -8,15 +8,15 @@ use native.Mathlib.Decide.{ℕ_discrete}
 use native.Mathlib.Numerals.{add-one}
 use native.Mathlib.Omega.{arith}
 use borrow.Author.Count.{below_more}
-use borrow.Author.Tests.{ltb-true, leb-true, lt-ltb, le-leb, eq-eqb, ne_eqb, not-true}
+use borrow.Author.Tests.{ltb-true, leb-true, lt-ltb, le-ltb, le-leb, eq-eqb, ne_eqb, not-true}
 use Rattle.std.proofs.lemmas.Bool.Decides.{nat_tests}
 use lib.Dec.{ltb, leb, eqb}
 use Rattle.std.proofs.lemmas.List.FromFn.{get_or-range_with_len, length-range_with_len}
-use Rattle.std.proofs.lemmas.List.Folds.{list_any_at}
+use Rattle.std.proofs.lemmas.List.Folds.{list_any_at, list_any-append}
 use Rattle.std.specs.List.{list_all, list_any, range_with_len}
 use Rattle.std.proofs.lemmas.List.Recursion.{and_at, and_from_places}
 use lib.ListN.{length, drop, take, length-map, get_or, set, get_or-map, length-drop}
-use lib.Seq.{get_or-drop, get_or-take, length-take-le, get_or-set_other, get_or-set_same}
+use lib.Seq.{take-add, get_or-drop, get_or-take, length-take-le, get_or-set_other, get_or-set_same}
 use Rattle.table.specs.declared.Block.{Block}
 use Rattle.table.specs.declared.State.{State}
 use Rattle.std.proofs.Common.{Some, None}
@@ -38,16 +38,24 @@ unfolding all_below
 all_below_front zero ok = sym (and-true (ok 0))
 all_below_front (suc k) ok = ap (λ (t : Bool). t && ok (suc k)) (all_below_front k ok) ∙ and_assoc (ok 0) (all_below k (λ i. ok (suc i))) (ok (suc k))
 
--- a scan of the numbers in turn, and one by tests that answer alike
-range_below : (ok : ℕ → Bool) (p : ℕ) → list_all ok (range_with_len 0 p) ≡ all_below p ok
-range_below ok p =
-    let numbers = range_with_len 0 p in
-    let number : (i : ℕ) → i < p → ok (get_or numbers i 0) ≡ ok i = λ i l. ap ok (get_or-range_with_len 0 p i 0 l ∙ omega arith) in
-    same_test (list_all ok numbers) (all_below p ok)
-    (λ h. all_below_all p ok (λ i l. sym (number i l) ∙ and_at (list_all ok) ok refl (λ _ _. refl) numbers i 0 (omega (arith, length-range_with_len 0 p)) h))
+-- scans of the numbers in turn, from k on and from 0 on, and those by tests that answer alike
+range_from : (ok : ℕ → Bool) (k p : ℕ) → list_all ok (range_with_len k (p - k)) ≡ all_below p (λ i. ltb i k || ok i)
+range_from ok k p =
+    let numbers = range_with_len k (p - k) in
+    let number : (i : ℕ) → i < p - k → get_or numbers i 0 ≡ k + i = λ i l. get_or-range_with_len k (p - k) i 0 l in
+    same_test (list_all ok numbers) (all_below p (λ i. ltb i k || ok i))
+    (λ h.
+    Shapes.from_all p k ok
+    (λ i l m. ap ok (sym (number (i - k) (omega arith) ∙ omega arith)) ∙ and_at (list_all ok) ok refl (λ _ _. refl) numbers (i - k) 0 (omega (arith, length-range_with_len k (p - k))) h))
     (λ h.
     and_from_places (list_all ok) ok refl (λ _ _. refl) numbers 0
-    (λ i l. let k : i < p = omega (arith, length-range_with_len 0 p) in number i k ∙ all_below-at p ok h i k))
+    (λ i l. let m : i < p - k = omega (arith, length-range_with_len k (p - k)) in ap ok (number i m) ∙ Shapes.from_at p k ok h (k + i) (omega arith) (omega arith)))
+
+range_below : (ok : ℕ → Bool) (p : ℕ) → list_all ok (range_with_len 0 p) ≡ all_below p ok
+range_below ok p =
+    ap (λ (n : ℕ). list_all ok (range_with_len 0 n)) (omega arith)
+    ∙ range_from ok 0 p
+    ∙ all_below_same p (λ i. ltb i 0 || ok i) ok (λ i l. ap (λ (t : Bool). t || ok i) (le-ltb i 0 zero-le))
 
 no_voters_below : (l : List Bool) → no_voters l ≡ all_below (length l) (λ i. not (get_or l i false))
 unfolding no_voters all_below
@@ -184,6 +192,15 @@ module _ (s : State) where
 
 -- ---- names
 
+-- none of the first n passes, and none of the m after them
+pub none_more : (ok : ℕ → Bool) (l : List ℕ) (n m k : ℕ) → n + m ≡ k → list_any ok (take n l) ≡ false → list_any ok (take m (drop n l)) ≡ false → list_any ok (take k l) ≡ false
+none_more ok l n m k e before here =
+    ap (λ (x : ℕ). list_any ok (take x l)) (sym e)
+    ∙ ap (list_any ok) (take-add n m l)
+    ∙ list_any-append ok (take n l) (take m (drop n l))
+    ∙ ap (λ (t : Bool). t || list_any ok (take m (drop n l))) before
+    ∙ here
+
 -- names that have not one key are not alike
 keys_differ : (a b : List ℕ) → (key a ≡ key b → ⊥) → same a b ≡ false
 keys_differ a b f = fails (same a b) (λ h. f (ap key (same_true a b h)))
@@ -228,21 +245,47 @@ module _ (s : State) (keys : List ℕ) (column : keys ≡ map (λ b. key b.name)
       λ j n. key-at s keys column j ∙ ap (λ (b : Block). key b.name) (sym (at_rows s j blank (omega arith) (omega arith))) in
       keys_differ (at (rows s) i).name (at (rows s) p).name (λ e. f (named i k ∙ e ∙ sym (named p (omega arith))))
 
-  -- where none below p has its key, none has its name; else the names tell
-  pub apart-new : list_any (λ k. eqb k (get_or keys p 0)) (take p keys) ≡ false → apart (rows s) p ≡ true
-  unfolding apart
-  apart-new none =
-      all_below_all p (λ q. not (same (at (rows s) q).name (at (rows s) p).name))
-      (λ i k. ap not (differ i (omega arith) (λ e. not_both (list_any_at (λ x. eqb x (get_or keys p 0)) (take p keys) i 0 (omega (arith, length-take-le p keys (omega (arith, long)))) (ap (λ x. eqb x (get_or keys p 0)) (get_or-take p keys i 0 k) ∙ eq-eqb (get_or keys i 0) (get_or keys p 0) e)) none)))
+  -- of the first k, which have not p's key, none has its name; of the others the keys tell, or the names
+  asked : (k : ℕ) → k ≤ p → list_any (λ x. eqb x (get_or keys p 0)) (take k keys) ≡ false → (i : ℕ) → i < p
+      → (ltb i k || (not (eqb (get_or keys i 0) (get_or keys p 0)) || not (same (at (rows s) i).name (at (rows s) p).name))) ≡ not (same (at (rows s) i).name (at (rows s) p).name)
+  asked k n none i o =
+      let a = get_or keys i 0 in
+      let b = get_or keys p 0 in
+      let x = not (same (at (rows s) i).name (at (rows s) p).name) in
+      let passed : i < k → a ≡ b → ⊥ =
+      λ h e. not_both (list_any_at (λ y. eqb y b) (take k keys) i 0 (omega (arith, length-take-le k keys (omega (arith, long)))) (ap (λ y. eqb y b) (get_or-take k keys i 0 h) ∙ eq-eqb a b e)) none in
+      elim (ℕ_discrete a b) [
+        | yes e ↦ ap (λ (t : Bool). t || (not (eqb a b) || x)) (fails (ltb i k) (λ h. passed (ltb-true i k h) e)) ∙ ap (λ (t : Bool). not t || x) (eq-eqb a b e)
+        | no f ↦ ap (λ (t : Bool). ltb i k || (not t || x)) (ne_eqb a b f) ∙ or-true (ltb i k) ∙ sym (ap not (differ i (omega arith) f))
+      ]
     where
       long : length keys ≡ length s.blocks
       long = ap length column ∙ length-map s.blocks (λ b. key b.name)
 
+  -- where none below p has its key, none has its name
+  pub apart-new : list_any (λ k. eqb k (get_or keys p 0)) (take p keys) ≡ false → apart (rows s) p ≡ true
+  unfolding apart
+  apart-new none =
+      all_below_all p (λ q. not (same (at (rows s) q).name (at (rows s) p).name))
+      (λ i o. let x = not (eqb (get_or keys i 0) (get_or keys p 0)) || not (same (at (rows s) i).name (at (rows s) p).name) in
+      sym (asked p (omega arith) none i o) ∙ ap (λ (t : Bool). t || x) (lt-ltb i p o))
+
+  -- the names alone tell
   pub apart-is : (d : Block) → list_all (λ q. not (same (get_or s.blocks q d).name (get_or s.blocks p d).name)) (range_with_len 0 p) ≡ apart (rows s) p
   unfolding apart
   apart-is d =
       let ok : ℕ → Bool = λ q. not (same (get_or s.blocks q d).name (get_or s.blocks p d).name) in
       range_below ok p ∙ all_below_same p ok (λ q. not (same (at (rows s) q).name (at (rows s) p).name)) (λ i k. ap not (names_of_rows s i p d d (omega arith) l m))
+
+  -- .. and so they do where keys are asked before them, and the first k not at all
+  pub apart-asked : (d : Block) (k : ℕ) → k ≤ p → list_any (λ x. eqb x (get_or keys p 0)) (take k keys) ≡ false
+      → list_all (λ q. not (eqb (get_or keys q 0) (get_or keys p 0)) || not (same (get_or s.blocks q d).name (get_or s.blocks p d).name)) (range_with_len k (p - k)) ≡ apart (rows s) p
+  unfolding apart
+  apart-asked d k n none =
+      let ok : ℕ → Bool = λ q. not (eqb (get_or keys q 0) (get_or keys p 0)) || not (same (get_or s.blocks q d).name (get_or s.blocks p d).name) in
+      range_from ok k p
+      ∙ all_below_same p (λ i. ltb i k || ok i) (λ q. not (same (at (rows s) q).name (at (rows s) p).name))
+      (λ i o. ap (λ (t : Bool). ltb i k || (not (eqb (get_or keys i 0) (get_or keys p 0)) || not t)) (names_of_rows s i p d d (omega arith) l m) ∙ asked k n none i o)
 
 -- a mark is set for each key seen
 abbrev pub marks : ℕ

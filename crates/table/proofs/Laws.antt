@@ -1,8 +1,8 @@
 -- What the definitions of `specs/` have to do with one another: the laws that proofs cite, here and in the crates above.
 -- Scans first (`Scan`), then bytes (`Bytes`), then rows (`Rows`). Assumes nothing.
 use Prim.Native.Nat.{ℕ, zero, suc, ◌+◌, ◌≤◌, ◌<◌, zero-le, max, min}
-use mathlib.Core.Bool.{Bool, true, false, ◌&&◌, and-eq-true_iff, true≢false, false≢true}
-use Rattle.std.proofs.Math.Bool.{and_assoc, and_comm}
+use mathlib.Core.Bool.{Bool, true, false, ◌&&◌, and-true, and-eq-true_iff, true≢false, false≢true}
+use Rattle.std.proofs.Math.Bool.{and_assoc}
 use Rattle.std.proofs.Common.{nat_eq, ◌++◌}
 use Rattle.std.proofs.lemmas.List.{take_more}
 use lib.ListN.{take}
@@ -20,7 +20,7 @@ use borrow.Author.Count.{below_more}
 use borrow.Author.Tests.{ltb-true, ltb-false, lt-ltb, le-ltb, le-leb, lt-leb, eqb-true, eq-eqb}
 use lib.Dec.{ltb, leb, eqb}
 use lib.ListN.{length, get_or, replicate, length-take, length-replicate, get_or-eq_default}
-use lib.Seq.{get_or-take, set_out}
+use lib.Seq.{ext_get_or, get_or-take, set_out}
 use Rattle.table.specs.Scan.{pick, all_below, count, lowest, highest, greatest}
 use Rattle.table.specs.Bytes.{same, zeros}
 use Rattle.table.specs.Rows.{capacity, row_of, rows, at, size, blank, find, found, has_voter, with_voter, votes, most_nodes}
@@ -249,6 +249,10 @@ highest-highest (suc k) ok rank =
     (λ e. beaten k ok rank w ih (both.0 e).0 (ltb-true (rank w) (rank k) (both.0 e).1))
     (λ e. unbeaten k ok rank w ih (λ h. ltb-false (rank w) (rank k) (rw h at e)))
 
+pub highest-step : (k : ℕ) (ok : ℕ → Bool) (rank : ℕ → ℕ) → highest (k + 1) ok rank ≡ pick (ok k && ltb (rank (highest k ok rank)) (rank k)) k (highest k ok rank)
+unfolding highest
+highest-step k ok rank = rw add-one
+
 -- the winner passes, unless it is 0, the start, which wins also where nothing passes
 pub highest-passes : (k : ℕ) (ok : ℕ → Bool) (rank : ℕ → ℕ) → (highest k ok rank ≡ 0) ⊎ ((highest k ok rank < k) × (ok (highest k ok rank) ≡ true))
 highest-passes k ok rank = (highest-highest k ok rank).passes
@@ -349,6 +353,9 @@ same_false a b h = fails (same a b) (λ e. h (same_true a b e))
 pub same_differs : (a b : List ℕ) (i : ℕ) → (get_or a i 0 ≡ get_or b i 0 → ⊥) → same a b ≡ false
 same_differs a b i h = same_false a b (λ e. h (ap (λ (l : List ℕ). get_or l i 0) e))
 
+pub same_all : (a b : List ℕ) (n : ℕ) → length a ≡ n → length b ≡ n → ((i : ℕ) → i < n → get_or a i 0 ≡ get_or b i 0) → same a b ≡ true
+same_all a b n p q h = ap (same a) (sym (ext_get_or 0 a b (p ∙ sym q) (λ i l. h i (omega arith)))) ∙ same_refl a
+
 -- std's comparison of two lists, element by element
 pub pointwise-same : (a b : List ℕ) → pointwise nat_eq a b ≡ same a b
 unfolding same
@@ -357,14 +364,18 @@ pointwise-same [] (y ∷ ys) = refl
 pointwise-same (x ∷ xs) [] = refl
 pointwise-same (x ∷ xs) (y ∷ ys) = ap (λ (t : Bool). eqb x y && t) (pointwise-same xs ys)
 
--- one byte more
-zeros-append : (a : List ℕ) (x : ℕ) → zeros (a ++ x ∷ []) ≡ (zeros a && eqb x 0)
+pub zeros-append : (a b : List ℕ) → zeros (a ++ b) ≡ (zeros a && zeros b)
 unfolding zeros
-zeros-append [] x = and_comm (eqb x 0) true
-zeros-append (y ∷ ys) x = ap (λ (t : Bool). eqb y 0 && t) (zeros-append ys x) ∙ sym (and_assoc (eqb y 0) (zeros ys) (eqb x 0))
+zeros-append [] b = refl
+zeros-append (x ∷ a) b = ap (λ (t : Bool). eqb x 0 && t) (zeros-append a b) ∙ sym (and_assoc (eqb x 0) (zeros a) (zeros b))
 
+-- one byte more
 pub zeros-more : (a : List ℕ) (i : ℕ) → i < length a → zeros (take (i + 1) a) ≡ (zeros (take i a) && eqb (get_or a i 0) 0)
-zeros-more a i h = ap zeros (take_more a i 0 h) ∙ zeros-append (take i a) (get_or a i 0)
+unfolding zeros
+zeros-more a i h =
+    ap zeros (take_more a i 0 h)
+    ∙ zeros-append (take i a) (get_or a i 0 ∷ [])
+    ∙ ap (λ (t : Bool). zeros (take i a) && t) (and-true (eqb (get_or a i 0) 0))
 
 -- a list is all zero where it is the same as as many zeros
 pub zeros-same : (a : List ℕ) (n : ℕ) → length a ≡ n → zeros a ≡ same a (replicate n 0)
@@ -422,15 +433,16 @@ unfolding find
 find_none t name none_has = lowest_none (size t) (λ p. same (at t p).name name) none_has
 
 -- .. and as an Option
-pub found_at : (t : List Block) (name : List ℕ) (p : ℕ) → p < size t → same (at t p).name name ≡ true → ((i : ℕ) → i < p → same (at t i).name name ≡ false) → found t name ≡ Some (record { 0 = p })
+pub found_is : (t : List Block) (name : List ℕ) (p : ℕ) → find t name ≡ p → found t name ≡ pick (ltb p (size t)) (Some (record { 0 = p })) None
 unfolding found
-found_at t name p l here below =
-    let e = find-is t name p l here below in
-    pick_yes (ltb (find t name) (size t)) _ _ (lt-ltb _ _ (omega arith)) ∙ ap (λ (w : ℕ). Some (record { 0 = w })) e
+found_is t name p e = ap (λ (w : ℕ). pick (ltb w (size t)) (Some (record { 0 = w })) None) e
+
+pub found_at : (t : List Block) (name : List ℕ) (p : ℕ) → p < size t → same (at t p).name name ≡ true → ((i : ℕ) → i < p → same (at t i).name name ≡ false) → found t name ≡ Some (record { 0 = p })
+found_at t name p l here below = found_is t name p (find-is t name p l here below) ∙ pick_yes (ltb p (size t)) _ _ (lt-ltb p (size t) l)
 
 pub found_none : (t : List Block) (name : List ℕ) → ((i : ℕ) → i < size t → same (at t i).name name ≡ false) → found t name ≡ None
-unfolding found
-found_none t name none_has = pick_no (ltb (find t name) (size t)) _ _ (le-ltb _ _ (omega (arith, find_none t name none_has)))
+found_none t name none_has =
+    found_is t name (size t) (find_none t name none_has) ∙ pick_no (ltb (size t) (size t)) _ _ (le-ltb (size t) (size t) (le_refl (size t)))
 
 -- ---- voters
 

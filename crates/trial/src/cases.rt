@@ -72,11 +72,21 @@ impl Rest<'_> {
         })
     }
 
+    // A mark for each node: any byte but 0. A loop and no `map`, so that many are compared at a time.
+    fn voters(&mut self) -> Option<[bool; NODES]> {
+        let bytes = self.take::<NODES>()?;
+        let mut voters = [false; NODES];
+        for (mark, b) in voters.iter_mut().zip(&bytes) {
+            *mark = *b != 0;
+        }
+        Some(voters)
+    }
+
     fn row(&mut self) -> Option<Block> {
         Some(Block {
             name: self.take()?,
             payload: self.take()?,
-            voters: self.take::<NODES>()?.map(|b| b != 0),
+            voters: self.voters()?,
             epoch: Epoch(self.number()?),
             parent: Place(self.number()?),
         })

@@ -9,7 +9,7 @@ mod replies;
 
 use cases::{CASE_BYTES, Case};
 use intake::read_full;
-use replies::reply_to;
+use replies::{Reply, reply_to};
 use std::io::{self, Read, Write};
 
 // Reads a case and writes its reply; may there be another.
@@ -19,7 +19,9 @@ fn try_one(reader: &mut impl Read, writer: &mut impl Write) -> io::Result<bool> 
     let Some(case) = Case::read(&bytes[..got]) else {
         return Ok(false);
     };
-    writer.write_all(&reply_to(case).bytes)?;
+    let mut reply = Reply::unwritten();
+    reply_to(case, &mut reply);
+    writer.write_all(&reply.bytes)?;
     Ok(true)
 }
 

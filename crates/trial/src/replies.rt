@@ -5,7 +5,7 @@ ghost use Rattle.std.specs.Prelude.{◌≡◌, ◌+◌, ◌*◌, ◌≤◌, leng
 use crate::cases::{Area, Case, NUMBER_BYTES, OUT_AREA, ROW_BYTES, STATE_BYTES};
 use lists::finals::{LIST_BYTES, final_list};
 use node::step;
-use table::{Answer, Block, State};
+use table::{Answer, Block, NODES, State};
 
 // What each byte of the final list's buffer holds before the call.
 const UNTOUCHED: u8 = 0x55;
@@ -22,6 +22,16 @@ pub struct Reply {
 
 // Each says how many bytes it puts, so that all are seen to fit.
 impl Reply {
+    // It is lent from here on: a reply that a function hands back is copied whole.
+    pub fn unwritten() -> Reply
+        ensures { result.written ≡ 0 }
+    {
+        Reply {
+            bytes: [0; REPLY_BYTES],
+            written: 0,
+        }
+    }
+
     // Puts bytes behind those that are written. `Line` of `lines` does so into a lent text and says what stands there; here only the room counts.
     fn put(&mut self, bytes: &[u8])
         requires { self.old.written + length bytes.now ≤ REPLY_BYTES }
@@ -39,13 +49,25 @@ impl Reply {
         self.put(numbers.map(u32::to_le_bytes).as_flattened());
     }
 
+    // A loop and no `map`, so that many marks become bytes at a time.
+    fn put_voters(&mut self, voters: &[bool; NODES])
+        requires { self.old.written + NODES ≤ REPLY_BYTES }
+        ensures { self.new.written ≡ self.old.written + NODES }
+    {
+        let mut bytes = [0; NODES];
+        for (b, mark) in bytes.iter_mut().zip(voters) {
+            *b = u8::from(*mark);
+        }
+        self.put(&bytes);
+    }
+
     fn put_row(&mut self, b: &Block)
         requires { self.old.written + ROW_BYTES ≤ REPLY_BYTES }
         ensures { self.new.written ≡ self.old.written + ROW_BYTES }
     {
         self.put(&b.name);
         self.put(&b.payload);
-        self.put(&b.voters.map(u8::from));
+        self.put_voters(&b.voters);
         self.put_numbers([b.epoch.0, b.parent.0]);
     }
 
@@ -72,7 +94,9 @@ impl Reply {
 }
 
 // Steps the state of a case once and puts all that comes of it.
-pub fn reply_to(case: Case) -> Reply {
+pub fn reply_to(case: Case, reply: &mut Reply)
+    requires { reply.old.written ≡ 0 }
+{
     let Case {
         mut state,
         record,
@@ -87,14 +111,9 @@ pub fn reply_to(case: Case) -> Reply {
         Ok(count) => (Answer::Taken, count),
         Err(refusal) => (refusal, 0),
     };
-    let mut reply = Reply {
-        bytes: [0; REPLY_BYTES],
-        written: 0,
-    };
     reply.put(&[answer as u8]);
     reply.put_state(&state);
     reply.put(&out);
     reply.put(&[list_answer as u8, count.to_le_bytes()[0]]);
     reply.put(&list);
-    reply
 }

@@ -1,5 +1,6 @@
 -- The tail: of the longer list what it has more, else the empty start of the first. Assumes nothing.
 use Rattle.std.proofs.Common.{arith, sym, ◌∙◌}
+use mathlib.Core.Logic.{inl, inr, ⊎_elim}
 use Rattle.lists.proofs.Sides.{empty_tail, first_longer, first_tail, second_longer, second_tail}
 use Rattle.lists.proofs.relations.tail.Goals as goal
 
@@ -30,4 +31,7 @@ pub returns-in-SecondLonger : goal.returns-in-SecondLonger
 returns-in-SecondLonger c = let e = second_tail _ _ _ _ _ c.relation.ensures c.in-SecondLonger.is in record { result_value = e.0; ref_ptr_value = e.1 }
 
 pub returns-in-Equal : goal.returns-in-Equal
-returns-in-Equal c = let e = empty_tail _ _ _ _ _ c.relation.ensures c.in-Equal.is in record { result_value = e.0; ref_ptr_value = e.1 }
+returns-in-Equal c = let e = empty_tail _ _ _ _ _ c.relation.ensures (⊎_elim inl (λ f. inr (inl f)) c.in-Equal.is) in record { result_value = e.0; ref_ptr_value = e.1 }
+
+pub returns-in-Broken : goal.returns-in-Broken
+returns-in-Broken c = let e = empty_tail _ _ _ _ _ c.relation.ensures (inr (inr c.in-Broken.is)) in record { result_value = e.0; ref_ptr_value = e.1 }

@@ -3,4 +3,4 @@ use Rattle.pala.proofs.Counts.{card_agrees}
 use Rattle.rules.proofs.quorum.enough.Goals as goal
 
 pub returns : goal.returns
-returns c = rw (c.from.ensures, c.from-2.ensures) (card_agrees c.args.votes c.args.n)
+returns c = rw (c.from-votes.ensures, c.from-nodes.ensures) (card_agrees c.args.votes c.args.n)

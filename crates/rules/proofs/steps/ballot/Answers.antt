@@ -7,7 +7,7 @@ use Rattle.std.proofs.lemmas.Iterator.Search.{find_from_yields_List}
 use Rattle.table.specs.declared.Place.{Place}
 use Rattle.rules.specs.Columns.{epoch_in, mark_in, up_in, votable_by}
 use Rattle.rules.proofs.Searches.{find_lowest}
-use Rattle.rules.proofs.Shown.{ballot-shown}
+use Rattle.rules.proofs.Shown.{chosen-shown}
 use Rattle.rules.proofs.steps.ballot.Goals as goal
 
 pub returns : goal.returns
@@ -20,4 +20,4 @@ returns c =
     (YieldsList-from_map _ (λ (k : ℕ). record { 0 = k }) (YieldsList-at c.map.ensures.source (YieldsList-from_range 0 d.size d.size refl (omega arith))) c.map.ensures.closure (λ x r q k. search rules))
     (λ x b q k. search (rules, tests))
     ∙ find_lowest ok d.size
-    ∙ ballot-shown s d c.columns_of-c.ensures.shown c.columns_of-c.ensures.fits
+    ∙ chosen-shown s d c.columns_of-c.ensures.shown c.columns_of-c.ensures.fits

@@ -1,6 +1,5 @@
 -- The clocks from number n on are zero: so far each was. Assumes nothing.
-use Rattle.std.proofs.Common.{ℕ, Bool, ◌&&◌, ◌||◌, eqb, ltb, arith, ◌≡◌, ◌∙◌, ap, refl, rules, sym}
-use Rattle.std.proofs.lemmas.Bool.Decides.{nat_tests}
+use Rattle.std.proofs.Common.{ℕ, Bool, ◌&&◌, ◌||◌, eqb, ltb, ◌≡◌, ◌∙◌, ap, refl, rules, sym}
 use Rattle.pala.specs.Counts.{clock_of}
 use Rattle.pala.specs.Shape.{clocks_ok}
 use Rattle.table.proofs.Laws.{all_below-step}
@@ -18,8 +17,7 @@ loop-k-preserved c =
     let a = c.args in
     let ok : ℕ → Bool = λ i. ltb i a.n || eqb (clock_of a.clocks.now i) 0 in
     let k = c.loop-k.k in
-    let here : c.if-k-n.good ≡ ok k = grind (arith, nat_tests) in
-    ap (λ (t : Bool). c.loop-k.good && t) here ∙ ap (λ (t : Bool). t && ok k) c.loop-k.invariant ∙ sym (all_below-step k ok)
+    ap (λ (t : Bool). t && ok k) c.loop-k.invariant ∙ sym (all_below-step k ok)
 
 pub returns : goal.returns
 unfolding clocks_ok

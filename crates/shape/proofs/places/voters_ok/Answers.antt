@@ -1,6 +1,5 @@
 -- No voter from number n on: so far none was. Assumes nothing.
-use Rattle.std.proofs.Common.{ℕ, Bool, not, ◌&&◌, ◌||◌, ltb, arith, ◌≡◌, ◌∙◌, ap, refl, rules, sym}
-use Rattle.std.proofs.lemmas.Bool.Decides.{nat_tests}
+use Rattle.std.proofs.Common.{ℕ, Bool, not, ◌&&◌, ◌||◌, ltb, ◌≡◌, ◌∙◌, ap, refl, rules, sym}
 use Rattle.pala.specs.Shape.{voters_ok}
 use Rattle.table.proofs.Laws.{all_below-step}
 use Rattle.table.specs.Rows.{has_voter, most_nodes}
@@ -17,8 +16,7 @@ loop-k-preserved c =
     let a = c.args in
     let ok : ℕ → Bool = λ i. ltb i a.n || not (has_voter a.b.now i) in
     let k = c.loop-k.k in
-    let here : c.if-k-n.good ≡ ok k = grind (arith, nat_tests) in
-    ap (λ (t : Bool). c.loop-k.good && t) here ∙ ap (λ (t : Bool). t && ok k) c.loop-k.invariant ∙ sym (all_below-step k ok)
+    ap (λ (t : Bool). t && ok k) c.loop-k.invariant ∙ sym (all_below-step k ok)
 
 pub returns : goal.returns
 unfolding voters_ok
