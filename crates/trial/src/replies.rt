@@ -94,9 +94,7 @@ impl Reply {
 }
 
 // Steps the state of a case once and puts all that comes of it.
-pub fn reply_to(case: Case, reply: &mut Reply)
-    requires { reply.old.written ≡ 0 }
-{
+pub fn reply_to(case: Case, reply: &mut Reply) {
     let Case {
         mut state,
         record,
@@ -111,6 +109,7 @@ pub fn reply_to(case: Case, reply: &mut Reply)
         Ok(count) => (Answer::Taken, count),
         Err(refusal) => (refusal, 0),
     };
+    reply.written = 0;
     reply.put(&[answer as u8]);
     reply.put_state(&state);
     reply.put(&out);
