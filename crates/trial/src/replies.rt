@@ -23,9 +23,7 @@ pub struct Reply {
 // Each says how many bytes it puts, so that all are seen to fit.
 impl Reply {
     // It is lent from here on: a reply that a function hands back is copied whole.
-    pub fn unwritten() -> Reply
-        ensures { result.written ≡ 0 }
-    {
+    pub fn unwritten() -> Reply {
         Reply {
             bytes: [0; REPLY_BYTES],
             written: 0,
