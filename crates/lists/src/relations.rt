@@ -22,7 +22,8 @@ fn name_at(list: &[u8], k: usize) -> &[u8]
     &list[from..from + NAME_BYTES]
 }
 
-// Are two names the same. All bytes are looked at, so that many are compared at a time; `==` on slices is a call, and takes twice as long (tried).
+// Are two names the same; `table`'s `same_name` takes arrays. All bytes are looked at, so that many are compared at a time: `==` on slices is a call, and
+// takes twice as long (tried).
 fn same_name(a: &[u8], b: &[u8]) -> bool
     requires { length a.now ≡ length b.now }
     ensures { result ≡ same a.now b.now }

@@ -9,8 +9,8 @@ use std::array::from_fn;
 use table::names::same_name;
 use table::{Block, NAME_BYTES, ROWS, State};
 
-// How many marks tell the keys seen apart; it is prime, so that every byte of a key counts. Few keys share one: with no marks
-// the test of the shape takes half as long again.
+// How many marks tell the keys seen apart; it is prime, so that every byte of a key counts. Few keys share one: where all do,
+// the test of the shape takes half as many instructions again.
 const MARKS: usize = 251;
 
 // How many keys are compared at a time.
