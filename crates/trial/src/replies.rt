@@ -107,6 +107,7 @@ pub fn reply_to(case: Case, reply: &mut Reply) {
         Ok(count) => (Answer::Taken, count),
         Err(refusal) => (refusal, 0),
     };
+    // From its start, whatever it held.
     reply.written = 0;
     reply.put(&[answer as u8]);
     reply.put_state(&state);
